@@ -1,0 +1,58 @@
+-- `column::read::fill` gives all the values and the place where they end: the first one, then two walks. Assumes nothing.
+use mathlib.Core.Path.{sym, ap, _∙_}
+use native.Mathlib.Omega.{arith}
+use lib.ListN.{length-set}
+use Rattle.entry.specs.Step.{marker}
+use Rattle.column.proofs.Filling.{filled-all}
+use borrow.Author.Needs.{needs}
+use Rattle.column.proofs.read.fill.Statement.{statement}
+use Rattle.column.proofs.read.fill.Tie as tie
+
+marker-requires : tie.Need-marker-requires
+marker-requires c κs = search needs
+
+window-requires : tie.Need-window-requires
+window-requires c κs = search needs
+
+slice-write-out : tie.Need-slice-write-out
+slice-write-out c = search needs
+
+fill-inside-requires : tie.Need-fill-inside-requires
+fill-inside-requires c κs = search needs
+
+fill-rest-requires : tie.Need-fill-rest-requires
+fill-rest-requires c κs = 
+    let st = c .before .before .before .before .before .before .before .before .before in
+    let i = c .before .before .before .fill-inside in
+    let z = length-set (st .args .out .now) 0 (c .before .before .before .before .before .window .result) in (
+      omega (arith, i .ensures .width, st .pre .1),
+      c .before .before .before .before .before .before .marker .ensures ∙ ap marker (sym (i .ensures .width)),
+      i .ensures .most,
+      st .pre .3,
+      omega (arith, st .pre .4, i .ensures .same, z),
+      omega (arith, i .ensures .bound, st .pre .3),
+    )
+
+same-length : tie.Need-same-length
+same-length c = c .before .before .fill-rest .ensures .0 .same ∙ c .before .before .before .before .before .before .fill-inside .ensures .same ∙ length-set (c .before .before .before .before .before .before .before .before .before .before .before .before .args .out .now) 0 (c .before .before .before .before .before .before .before .before .window .result)
+
+returns : tie.Need-returns
+returns c = 
+    let st = c .before .before .before .before .before .before .before .before .before .before .before .before in
+    let i = c .before .before .before .before .before .before .fill-inside in
+    let r = c .before .before .fill-rest in
+    let f = filled-all 64 (st .args .s .now) (st .args .out .now) (i .last .1 .1 .1 .1 .0) (r .last .1 .1 .1 .1 .0) (st .args .n) (st .args .w) (c .before .before .before .before .before .before .before .before .window .result) (i .result) (r .result)
+    (st .pre .0) (c .before .before .before .before .before .before .before .before .window .ensures) (st .pre .2) (st .pre .4) (i .ensures) (r .ensures .0) (r .ensures .1) in
+    (f .0, f .1, omega (arith, i .ensures .bound, r .ensures .0 .bound, r .ensures .1, st .pre .3))
+
+pub fill-spec : {M : Type 1} → statement M
+fill-spec =
+    tie.close
+    (tie.spec
+    marker-requires
+    window-requires
+    slice-write-out
+    fill-inside-requires
+    fill-rest-requires
+    same-length
+    returns)

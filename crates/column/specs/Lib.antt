@@ -1,0 +1,4 @@
+pub mod Column
+pub mod Write
+pub mod Read
+pub mod Filling

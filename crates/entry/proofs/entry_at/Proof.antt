@@ -1,0 +1,49 @@
+-- `entry::entry_at` gives the value and the place after it that the entry says, by the entry's two cases. Assumes nothing.
+use Rattle.le.specs.Number.{number}
+use Rattle.entry.proofs.Reading.{given-short, given-full}
+use borrow.Author.Needs.{needs}
+use Rattle.entry.proofs.entry_at.Statement.{statement}
+use Rattle.entry.proofs.entry_at.Tie as tie
+
+field-requires : tie.Need-field-requires
+field-requires c κs = search needs
+
+add-p : tie.Need-add-p
+add-p c = search needs
+
+unzigzag-requires : tie.Need-unzigzag-requires
+unzigzag-requires c κs = search needs
+
+wrapping-add-u64-requires : tie.Need-wrapping-add-u64-requires
+wrapping-add-u64-requires c κs = search needs
+
+window-requires : tie.Need-window-requires
+window-requires c κs = search needs
+
+add-t14 : tie.Need-add-t14
+add-t14 c = search needs
+
+returns : tie.Need-returns
+returns c =
+    let st = c .before .before .before .before .before in
+    given-short 64 (number (st .args .s .now)) (st .args .n) (st .args .at) (st .args .a) (c .before .before .before .field .result) (c .before .before .before .field .ensures)
+    (st .args .m) (c .before .unzigzag .result) (c .wrapping-add-u64 .result) (st .pre .1) (c .before .before .if1 .taken) (c .before .unzigzag .ensures) (c .wrapping-add-u64 .ensures)
+
+returns-2 : tie.Need-returns-2
+returns-2 c =
+    let st = c .before .before .before .before in
+    given-full 64 (number (st .args .s .now)) (st .args .n) (st .args .at) (st .args .a) (c .before .before .field .result) (c .before .before .field .ensures)
+    (st .args .m) (c .window .result) (st .pre .1) (c .before .if1 .left) (c .window .ensures)
+
+pub entry-at-spec : {M : Type 1} → statement M
+entry-at-spec =
+    tie.close
+    (tie.spec
+    field-requires
+    add-p
+    unzigzag-requires
+    wrapping-add-u64-requires
+    window-requires
+    add-t14
+    returns
+    returns-2)

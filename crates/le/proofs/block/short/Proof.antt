@@ -1,0 +1,17 @@
+-- `short` says the refusal of a length that doesn't fit. Assumes nothing.
+use mathlib.Core.Path.{ap}
+use borrow.Author.Needs.{needs}
+use Rattle.answer.specs.Outcome.{refused}
+use Rattle.le.specs.Block.{said}
+use Rattle.le.proofs.block.short.Statement.{statement}
+use Rattle.le.proofs.block.short.Tie as tie
+
+because-requires : tie.Need-because-requires
+because-requires c κs = search needs
+
+returns : tie.Need-returns
+unfolding said
+returns c = ap refused (c .because .ensures)
+
+pub short-spec : {M : Type 1} → statement M
+short-spec = tie.close (tie.spec because-requires returns)

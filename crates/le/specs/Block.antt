@@ -1,0 +1,28 @@
+-- A block's head: "All numbers little-endian. Each block: length of the body (u32), kind (u16), body." Assumes nothing.
+use Prim.Native.Nat.{ℕ, _+_}
+use mathlib.Core.List.{List, _++_}
+use lib.ListN.{length}
+use lib.Dec.{leb}
+use Rattle.answer.specs.Table.{cut}
+use Rattle.answer.specs.Refusal.{because}
+use Rattle.answer.specs.Outcome.{Out, refused, ok, need}
+use Rattle.le.specs.declared.block.Block.{Block}
+use Rattle.le.specs.declared.block.BlockRead.{BlockRead}
+use Rattle.le.specs.declared.block.BlockRead.the-variants.{Found, Refused}
+use Rattle.le.specs.Number.{numberAt, bytesOf}
+
+-- the block whose head stands at a place: its head must be there, and then all of its body
+unfoldable pub blockAt : List ℕ → ℕ → Out Block
+blockAt s at =
+    need (leb (at + 6) (length s)) (because cut)
+    (need (leb (at + 6 + numberAt 4 s at) (length s)) (because cut)
+    (ok (record { kind = numberAt 2 s (at + 4); body = at + 6; len = numberAt 4 s at })))
+
+-- what the code's answer says
+unfoldable pub said : BlockRead → Out Block
+said (Found b) = ok b
+said (Refused w) = refused w
+
+-- the head of a block, as bytes
+unfoldable pub headOf : ℕ → ℕ → List ℕ
+headOf len kind = bytesOf 4 len ++ bytesOf 2 kind

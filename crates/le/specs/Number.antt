@@ -1,0 +1,23 @@
+-- The number that bytes are, and the fields of its bits. All numbers are little-endian; bit k of a run of bytes is bit k mod 8 of byte k / 8,
+-- lowest first. So the bytes are one number, whose bit k that is. Assumes nothing.
+use Prim.Native.Nat.{ℕ, zero, suc, _+_, _*_, _/_, _%_, _^_}
+use mathlib.Core.List.{List, [], _∷_}
+use lib.ListN.{take, drop}
+
+-- the number that bytes are, the first lowest
+unfoldable pub number : List ℕ → ℕ
+number [] = 0
+number (b ∷ bs) = number bs * 256 + b
+
+-- the k low bytes of a number, the lowest first
+unfoldable pub bytesOf : ℕ → ℕ → List ℕ
+bytesOf zero x = []
+bytesOf (suc k) x = x % 256 ∷ bytesOf k (x / 256)
+
+-- the number of the k bytes from place at on
+unfoldable pub numberAt : ℕ → List ℕ → ℕ → ℕ
+numberAt k s at = number (take k (drop at s))
+
+-- the field of w bits from bit place k on of a number, low bit first; a number has zero bits without end
+abbrev pub field : ℕ → ℕ → ℕ → ℕ
+field b k w = b / 2 ^ k % 2 ^ w

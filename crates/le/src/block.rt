@@ -1,0 +1,64 @@
+// A block's head. All numbers little-endian. Each block: length of the body (u32), kind (u16), body.
+ghost use mathlib.Core.Path.{_≡_};
+ghost use Prim.Native.Nat.{_+_, _≤_};
+ghost use lib.ListN.{length};
+ghost use lib.Seq.{sets};
+ghost use Rattle.answer.specs.Table.{cut};
+ghost use Rattle.answer.specs.Refusal.{because};
+ghost use Rattle.answer.specs.Outcome.{refused};
+ghost use Rattle.le.specs.Block.{blockAt, said, headOf};
+use crate::number::put_u16;
+use crate::number::put_u32;
+use crate::number::u16_at;
+use crate::number::u32_at;
+use answer::Refusal;
+use answer::table::LENGTH;
+
+// A block: its kind, the place of its body's first byte, and the body's length.
+pub struct Block {
+    pub kind: usize,
+    pub body: usize,
+    pub len: usize,
+}
+
+// The block that was found, all of it there, or the refusal.
+pub enum BlockRead {
+    Found(Block),
+    Refused(Refusal),
+}
+
+// A length doesn't fit.
+fn short() -> BlockRead
+    ensures { λ r. ⌜ said r ≡ refused (because cut) ⌝ }
+{
+    BlockRead::Refused(Refusal::because(LENGTH))
+}
+
+// The block whose head stands at a place, any place.
+pub fn block_at(s: &[u8], at: usize) -> BlockRead
+    ensures { λ r. ⌜ said r ≡ blockAt (now (s .entry)) at ⌝ }
+{
+    let n = s.len();
+    if n < 6 {
+        return short();
+    }
+    if n - 6 < at {
+        return short();
+    }
+    let body = at + 6;
+    let len = u32_at(s, at);
+    if n - body < len {
+        return short();
+    }
+    let kind = u16_at(s, at + 4);
+    BlockRead::Found(Block { kind, body, len })
+}
+
+// Puts a block's head from place at on; the rest stays.
+pub fn put_head(d: &mut [u8], at: usize, len: u64, kind: u64)
+    requires { ⌜ at + 6 ≤ length (now d) ⌝ }
+    ensures { λ r. ⌜ now (d .exit) ≡ sets (now (d .entry)) at (headOf len kind) ⌝ }
+{
+    put_u32(d, at, len);
+    put_u16(d, at + 4, kind);
+}
