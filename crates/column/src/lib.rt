@@ -1,5 +1,10 @@
 // The coordinate column, written and read.
+ghost use mathlib.Core.Path.{_≡_};
+ghost use Rattle.answer.specs.Refusal.{because};
+use answer::{Filled, Refusal};
+
 pub mod read;
+pub mod write;
 
 // Where a walk over a column stands: the bit place of the next entry, how many values were given, the width, and the last value.
 pub struct Position {
@@ -7,4 +12,11 @@ pub struct Position {
     pub given: usize,
     pub width: u64,
     pub last: u64,
+}
+
+// A refusal by its number.
+fn refused(number: u8) -> Filled
+    ensures { λ r. ⌜ r ≡ Filled.Refused (because number) ⌝ }
+{
+    Filled::Refused(Refusal::because(number))
 }

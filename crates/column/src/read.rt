@@ -3,14 +3,14 @@ ghost use mathlib.Core.Path.{_≡_};
 ghost use mathlib.Core.List.{_++_};
 ghost use Prim.Native.Nat.{_+_, _*_, _≤_, _<_};
 ghost use lib.ListN.{length, take, drop, getD};
-ghost use Rattle.answer.specs.Refusal.{because};
 ghost use Rattle.answer.specs.Outcome.{Fills};
 ghost use Rattle.le.specs.Number.{number};
 ghost use Rattle.entry.specs.Step.{marker};
 ghost use Rattle.column.specs.Read.{saidBy, endOf, decodeOf, readOf, Decodes};
 ghost use Rattle.column.specs.Filling.{Went};
-use answer::{Filled, Refusal};
+use answer::Filled;
 use crate::Position;
+use crate::refused;
 
 // The byte below which an entry has 17 bytes from its first one on; 0 where there is none.
 fn reach(len: usize) -> usize
@@ -88,13 +88,6 @@ fn fill(s: &[u8], n: usize, w: u64, out: &mut [u64]) -> usize
     let inside = fill_inside(s, n, m, start, out);
     let end = fill_rest(s, n, m, inside, out);
     end.at
-}
-
-// A refusal by its number.
-fn refused(number: u8) -> Filled
-    ensures { λ r. ⌜ r ≡ Filled.Refused (because number) ⌝ }
-{
-    Filled::Refused(Refusal::because(number))
 }
 
 // The n values of a column into a scratch of the caller's own, in one walk. A refusal by 9 or 10 too leaves there what the entries said.

@@ -2,10 +2,11 @@
 use mathlib.Core.Path.{_≡_, refl, sym, ap, _∙_}
 use mathlib.Core.List.{List, [], _∷_, _++_}
 use mathlib.Core.Bool.{Bool, true, false}
-use Prim.Native.Nat.{ℕ, _+_, _^_, _≤_, _<_}
+use Prim.Native.Nat.{ℕ, zero, suc, _+_, _^_, _≤_, _<_}
 use native.Mathlib.Nat.{add-zero}
 use native.Mathlib.Omega.{arith}
 use lib.Dec.{ltb}
+use lib.ListN.{getD, drop}
 use lib.Pow.{ones-lt}
 use borrow.Author.Tests.{lt-ltb, le-ltb, ltb-true, ltb-false}
 use Rattle.entry.specs.Step.{zOf, marker}
@@ -18,6 +19,15 @@ use Rattle.entry.proofs.Fields.{Fit, fit-none, fit-more, Narrow, narrow
 pub data Below (P : ℕ) : List ℕ → Type 0 where
   below-none : Below P []
   below-more : {v : ℕ} {vs : List ℕ} → v < 2 ^ P → Below P vs → Below P (v ∷ vs)
+
+pub all-below : (P : ℕ) (vs : List ℕ) → ((i : ℕ) → getD vs i 0 < 2 ^ P) → Below P vs
+all-below P [] h = below-none
+all-below P (v ∷ vs) h = below-more (h 0) (all-below P vs (λ i. h (suc i)))
+
+pub below-drop : (P k : ℕ) (vs : List ℕ) → Below P vs → Below P (drop k vs)
+below-drop P zero vs h = h
+below-drop P (suc k) [] h = h
+below-drop P (suc k) (v ∷ vs) (below-more l h) = below-drop P k vs h
 
 module _ (P n a v : ℕ) (vs : List ℕ) where
   pub entries-short : zOf P a v < marker n → entries P n a (v ∷ vs) ≡ fld (zOf P a v) n ∷ entries P n v vs

@@ -18,6 +18,10 @@ pub data Fit : List Fld → Type 0 where
   fit-none : Fit []
   fit-more : {v w : ℕ} {fs : List Fld} → v < 2 ^ w → Fit fs → Fit (fld v w ∷ fs)
 
+pub fit-append : {fs gs : List Fld} → Fit fs → Fit gs → Fit (fs ++ gs)
+fit-append fit-none g = g
+fit-append (fit-more h r) g = fit-more h (fit-append r g)
+
 pub pack-lt : {fs : List Fld} → Fit fs → pack fs < 2 ^ bits fs
 unfolding pack bits
 pack-lt fit-none = suc-le-suc zero-le
@@ -55,6 +59,10 @@ bits-append (f ∷ fs) gs = ap (λ (x : ℕ). f .wid + x) (bits-append fs gs) �
 pub data Narrow : List Fld → Type 0 where
   narrow-none : Narrow []
   narrow-more : {v w : ℕ} {fs : List Fld} → w ≤ 64 → Narrow fs → Narrow (fld v w ∷ fs)
+
+pub narrow-append : {fs gs : List Fld} → Narrow fs → Narrow gs → Narrow (fs ++ gs)
+narrow-append narrow-none g = g
+narrow-append (narrow-more h r) g = narrow-more h (narrow-append r g)
 
 pub put-append : (s : List ℕ) (at : ℕ) (fs gs : List Fld) → putFields s at (fs ++ gs) ≡ putFields (putFields s at fs) (at + bits fs) gs
 unfolding putFields bits

@@ -3,7 +3,7 @@ use mathlib.Core.Path.{_≡_, refl, sym, ap, ap₂, _∙_}
 use mathlib.Core.List.{List, [], _∷_, _++_}
 use mathlib.Core.Bool.{Bool, true, false}
 use Prim.Native.Nat.{ℕ, suc, _+_, _-_, _*_, _^_, _≤_, _<_, zero-le}
-use native.Mathlib.Nat.{mul-suc, mul-zero, mul-one, mul-add, zero-mul, zero-add, mul-le-mul, mul-le-mul-left}
+use native.Mathlib.Nat.{mul-suc, mul-zero, mul-one, mul-add, zero-mul, zero-add, mul-le-mul, mul-le-mul-left, mul-le-mul-right, add-mul}
 use native.Mathlib.Numerals.{add-one}
 use native.Mathlib.Omega.{arith}
 use lib.Dec.{leb}
@@ -63,6 +63,14 @@ bits-S P n a (v ∷ vs) = go (leb (marker n) (zOf P a v)) refl (bits-S P n v vs)
         rw e (ap bits (entries-cons P n a v vs) ∙ bits-append (entryOf P n a v) (entries P n v vs)
         ∙ ap₂ (λ (x y : ℕ). x + y) (short-bits P n a v (zOf P a v) refl (leb-false _ _ e)) ih
         ∙ omega (arith, mul-suc n (length (zsAfter P v vs)), mul-add P 0 (fulls n (zsAfter P v vs)), mul-zero P))
+
+-- at any width at most P + P for each step
+pub bits-le : (P n a : ℕ) (vs : List ℕ) → n ≤ P → bits (entries P n a vs) ≤ (P + P) * length vs
+unfolding S
+bits-le P n a vs h =
+    let zs : List ℕ = zsAfter P a vs in
+    omega (arith, bits-S P n a vs, length-zsAfter P a vs, mul-le-mul-right (length (zsAfter P a vs)) h, mul-le-mul-left P (fulls-le n (zsAfter P a vs)), add-mul P P (length vs),
+    ap (λ (k : ℕ). P * k) (length-zsAfter P a vs))
 
 -- ---- at the width taken
 
