@@ -94,5 +94,5 @@ filled-all P s d e f n w a q r hw ha h l g k m =
     let t : take 1 (set d 0 a) ≡ a ∷ [] = take-suc-set d 0 a (omega arith) in (
       z .0 ∙ ap (λ (x : ℕ). after P (number s) x (n - 1) (8 + P)) hw,
       z .1 ∙ ap₂ (λ (x y : List ℕ). (x ++ values P (number s) w (n - 1) (8 + P) a) ++ y) t (drop-set-lt n d 0 a h)
-      ∙ ap₂ (λ (x y : ℕ). (y ∷ values P (number s) x (n - 1) (8 + P) y) ++ drop n d) hw ha,
+          ∙ ap₂ (λ (x y : ℕ). (y ∷ values P (number s) x (n - 1) (8 + P) y) ++ drop n d) hw ha,
     )

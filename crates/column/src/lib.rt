@@ -1,7 +1,8 @@
 // The coordinate column, written and read.
 ghost use mathlib.Core.Path.{_≡_};
 ghost use Rattle.answer.specs.Refusal.{because};
-use answer::{Filled, Refusal};
+use answer::Filled;
+use answer::Refusal;
 
 pub mod read;
 pub mod write;

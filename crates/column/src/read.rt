@@ -8,9 +8,9 @@ ghost use Rattle.le.specs.Number.{number};
 ghost use Rattle.entry.specs.Step.{marker};
 ghost use Rattle.column.specs.Read.{saidBy, endOf, decodeOf, readOf, Decodes};
 ghost use Rattle.column.specs.Filling.{Went};
-use answer::Filled;
 use crate::Position;
 use crate::refused;
+use answer::Filled;
 
 // The byte below which an entry has 17 bytes from its first one on; 0 where there is none.
 fn reach(len: usize) -> usize

@@ -10,8 +10,8 @@ ghost use Rattle.entry.specs.Entry.{entries};
 ghost use Rattle.width.specs.Width.{widthOf};
 ghost use Rattle.column.specs.Column.{encodeAt, encode};
 ghost use Rattle.column.specs.Write.{writeOf};
-use answer::Filled;
 use crate::refused;
+use answer::Filled;
 
 // The width that a column takes, and its size in bytes.
 pub struct Fitted {

@@ -135,7 +135,7 @@ pub record Said (P b n at a k : ℕ) : Type 0 where
   pub there : b / 2 ^ at % 2 ^ bits fields ≡ pack fields
 
 -- a field in front of fields that stand there
-in-front : (b at w v : ℕ) (fs : List Fld) → field b at w ≡ v → b / 2 ^ (at + w) % 2 ^ bits fs ≡ pack fs → b / 2 ^ at % 2 ^ (w + bits fs) ≡ pack fs * 2 ^ w + v
+pub in-front : (b at w v : ℕ) (fs : List Fld) → field b at w ≡ v → b / 2 ^ (at + w) % 2 ^ bits fs ≡ pack fs → b / 2 ^ at % 2 ^ (w + bits fs) ≡ pack fs * 2 ^ w + v
 in-front b at w v fs e h =
     ap (λ (k : ℕ). b / 2 ^ at % 2 ^ k) (add-comm w (bits fs))
     ∙ mod-pow-add (b / 2 ^ at) (bits fs) w

@@ -69,8 +69,15 @@ pub bits-le : (P n a : ℕ) (vs : List ℕ) → n ≤ P → bits (entries P n a 
 unfolding S
 bits-le P n a vs h =
     let zs : List ℕ = zsAfter P a vs in
-    omega (arith, bits-S P n a vs, length-zsAfter P a vs, mul-le-mul-right (length (zsAfter P a vs)) h, mul-le-mul-left P (fulls-le n (zsAfter P a vs)), add-mul P P (length vs),
-    ap (λ (k : ℕ). P * k) (length-zsAfter P a vs))
+    omega (
+      arith,
+      bits-S P n a vs,
+      length-zsAfter P a vs,
+      mul-le-mul-right (length (zsAfter P a vs)) h,
+      mul-le-mul-left P (fulls-le n (zsAfter P a vs)),
+      add-mul P P (length vs),
+      ap (λ (k : ℕ). P * k) (length-zsAfter P a vs),
+    )
 
 -- ---- at the width taken
 

@@ -18,21 +18,21 @@ add-p : tie.Need-add-p
 add-p c = search needs
 
 put-field-requires : tie.Need-put-field-requires
-put-field-requires c κs = 
+put-field-requires c κs =
     let st = c .before .before .before .before in
     let z = c .before .before .zigzag in
     let lt : z .result < marker (st .args .n) = subst (λ (x : ℕ). z .result < x) (st .pre .1) (c .before .if1 .taken) in
     (st .pre .0, omega (arith, ones-lt (st .args .n)), omega (arith, short-bits 64 (st .args .n) (st .args .a) (st .args .v) (z .result) (z .ensures) lt, st .pre .2))
 
 put-field-requires-2 : tie.Need-put-field-requires-2
-put-field-requires-2 c κs = 
+put-field-requires-2 c κs =
     let st = c .before .before .before .before in
     let z = c .before .before .zigzag in
     let le : marker (st .args .n) ≤ z .result = subst (λ (x : ℕ). x ≤ z .result) (st .pre .1) (c .before .if1 .left) in
     (st .pre .0, omega (arith, ones-lt (st .args .n)), omega (arith, full-bits 64 (st .args .n) (st .args .a) (st .args .v) (z .result) (z .ensures) le, st .pre .2))
 
 put-field-requires-3 : tie.Need-put-field-requires-3
-put-field-requires-3 c κs = 
+put-field-requires-3 c κs =
     let st = c .before .before .before .before .before .before .before .before in
     let z = c .before .before .before .before .before .before .zigzag in
     let le : marker (st .args .n) ≤ z .result = subst (λ (x : ℕ). x ≤ z .result) (st .pre .1) (c .before .before .before .before .before .if1 .left) in
@@ -45,7 +45,7 @@ same-length : tie.Need-same-length
 same-length c = search needs
 
 returns : tie.Need-returns
-returns c = 
+returns c =
     let st = c .before .before .before .before .before .before .before in
     let z = c .before .before .before .before .before .zigzag in
     let lt : z .result < marker (st .args .n) = subst (λ (x : ℕ). z .result < x) (st .pre .1) (c .before .before .before .before .if1 .taken) in (
@@ -57,7 +57,7 @@ same-length-2 : tie.Need-same-length-2
 same-length-2 c = search needs
 
 returns-2 : tie.Need-returns-2
-returns-2 c = 
+returns-2 c =
     let st = c .before .before .before .before .before .before .before .before .before .before .before in
     let z = c .before .before .before .before .before .before .before .before .before .zigzag in
     let le : marker (st .args .n) ≤ z .result = subst (λ (x : ℕ). x ≤ z .result) (st .pre .1) (c .before .before .before .before .before .before .before .before .if1 .left) in (

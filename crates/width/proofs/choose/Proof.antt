@@ -34,9 +34,11 @@ loop-less c = omega arith
 
 loop-again : tie.Need-loop-again Inv-loop μ-loop
 loop-again c =
-    let l = c .before .before .before .loop in
-    (omega arith, chosen-more (S 64 (zsOf 64 (c .before .before .before .before .before .before .args .vs .now))) (l .n) (c .before .size-at2 .result) (l .best) (c .lesser .result)
-    (c .before .size-at2 .ensures) (c .lesser .ensures) (l .inv .1))
+    let l = c .before .before .before .loop in (
+      omega arith,
+      chosen-more (S 64 (zsOf 64 (c .before .before .before .before .before .before .args .vs .now))) (l .n) (c .before .size-at2 .result) (l .best) (c .lesser .result)
+          (c .before .size-at2 .ensures) (c .lesser .ensures) (l .inv .1),
+    )
 
 returns : tie.Need-returns Inv-loop μ-loop
 unfolding widthOf

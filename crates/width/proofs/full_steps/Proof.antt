@@ -65,7 +65,7 @@ loop-again c =
       omega arith,
       omega arith,
       count-more 64 (st .args .n) (l .a) (l .i) (l .count) (fulls (st .args .n) (zsOf 64 (st .args .vs .now))) (st .args .m) (c .before .zigzag .result) (c .full .result) (st .args .vs .now)
-      (c .before .before .before .loop-test .taken) (l .inv .2) (st .pre .0) (c .before .zigzag .ensures) (c .full .ensures),
+          (c .before .before .before .loop-test .taken) (l .inv .2) (st .pre .0) (c .before .zigzag .ensures) (c .full .ensures),
     )
 
 returns-2 : tie.Need-returns-2 Inv-loop μ-loop

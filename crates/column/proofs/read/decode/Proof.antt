@@ -7,7 +7,7 @@ use Rattle.column.proofs.read.decode.Statement.{statement}
 use Rattle.column.proofs.read.decode.Tie as tie
 
 returns : tie.Need-returns
-returns c = 
+returns c =
     let a = c .before .before .before .before .args in
     decodes-none 64 (a .s .now) (a .n) (a .out .now) (c .before .if1 .taken) (c .if2 .taken) (λ i. c .before .before .before .shared-slice-known .given i .fits)
 
@@ -15,7 +15,7 @@ refused-requires : tie.Need-refused-requires
 refused-requires c κs = search needs
 
 returns-2 : tie.Need-returns-2
-returns-2 c = 
+returns-2 c =
     let a = c .before .before .before .before .before .args in
     rw (c .refused .ensures) (decodes-none-bits 64 (a .s .now) (a .n) (a .out .now) (c .before .before .if1 .taken) (c .before .if2 .left))
 
@@ -23,7 +23,7 @@ refused-requires-2 : tie.Need-refused-requires-2
 refused-requires-2 c κs = search needs
 
 returns-3 : tie.Need-returns-3
-returns-3 c = 
+returns-3 c =
     let a = c .before .before .before .before .before .args in
     rw (c .refused2 .ensures) (decodes-empty 64 (a .s .now) (a .n) (a .out .now) (c .before .before .if1 .left) (c .before .if3 .taken))
 
@@ -37,7 +37,7 @@ refused-requires-3 : tie.Need-refused-requires-3
 refused-requires-3 c κs = search needs
 
 returns-4 : tie.Need-returns-4
-returns-4 c = 
+returns-4 c =
     let a = c .before .before .before .before .before .before .before .before .args in
     rw (c .refused3 .ensures) (decodes-wide 64 (a .s .now) (a .n) (a .out .now) (c .before .before .before .before .before .if1 .left) (c .before .before .before .before .if3 .left) (omega (arith, c .before .before .wide .ensures, c .before .if4 .taken)))
 
@@ -54,7 +54,7 @@ same-length : tie.Need-same-length
 same-length c = search needs
 
 returns-5 : tie.Need-returns-5
-returns-5 c = 
+returns-5 c =
     let a = c .before .before .before .before .before .before .before .before .before .before .before .before .before .args in
     rw (c .refused4 .ensures) (decodes-bits 64 (a .s .now) (a .n) (a .out .now) (c .before .before .before .before .before .before .before .before .before .before .if1 .left) (c .before .before .before .before .before .before .before .before .before .if3 .left) (omega (arith, c .before .before .before .before .before .before .before .wide .ensures, c .before .before .before .before .before .before .if4 .left)) (c .before .before .before .before .fill .result) (c .before .before .before .before .fill .last .1 .1 .1 .0) (c .before .before .before .before .fill .ensures .0) (c .before .before .before .before .fill .ensures .1) (c .before .if5 .taken))
 
@@ -68,7 +68,7 @@ same-length-2 : tie.Need-same-length-2
 same-length-2 c = search needs
 
 returns-6 : tie.Need-returns-6
-returns-6 c = 
+returns-6 c =
     let a = c .before .before .before .before .before .before .before .before .before .before .before .before .before .before .before .args in
     rw (c .refused5 .ensures) (decodes-fill 64 (a .s .now) (a .n) (a .out .now) (c .before .before .before .before .before .before .before .before .before .before .before .before .if1 .left) (c .before .before .before .before .before .before .before .before .before .before .before .if3 .left) (omega (arith, c .before .before .before .before .before .before .before .before .before .wide .ensures, c .before .before .before .before .before .before .before .before .if4 .left)) (c .before .before .before .before .before .before .fill .result) (c .before .before .before .before .before .before .fill .last .1 .1 .1 .0) (c .before .before .before .before .before .before .fill .ensures .0) (c .before .before .before .before .before .before .fill .ensures .1) (λ i. c .before .before .before .before .before .before .before .before .before .before .before .before .before .before .shared-slice-known .given i .fits) (c .before .before .before .if5 .left) (λ z. c .before .if6 .taken (c .before .before .window .ensures ∙ z)))
 
@@ -76,7 +76,7 @@ same-length-3 : tie.Need-same-length-3
 same-length-3 c = search needs
 
 returns-7 : tie.Need-returns-7
-returns-7 c = 
+returns-7 c =
     let a = c .before .before .before .before .before .before .before .before .before .before .before .before .before .before .args in
     decodes-good 64 (a .s .now) (a .n) (a .out .now) (c .before .before .before .before .before .before .before .before .before .before .before .if1 .left) (c .before .before .before .before .before .before .before .before .before .before .if3 .left) (omega (arith, c .before .before .before .before .before .before .before .before .wide .ensures, c .before .before .before .before .before .before .before .if4 .left)) (c .before .before .before .before .before .fill .result) (c .before .before .before .before .before .fill .last .1 .1 .1 .0) (c .before .before .before .before .before .fill .ensures .0) (c .before .before .before .before .before .fill .ensures .1) (λ i. c .before .before .before .before .before .before .before .before .before .before .before .before .before .shared-slice-known .given i .fits) (c .before .before .if5 .left) (sym (c .before .window .ensures) ∙ c .if6 .left)
 

@@ -21,7 +21,7 @@ fill-inside-requires : tie.Need-fill-inside-requires
 fill-inside-requires c κs = search needs
 
 fill-rest-requires : tie.Need-fill-rest-requires
-fill-rest-requires c κs = 
+fill-rest-requires c κs =
     let st = c .before .before .before .before .before .before .before .before .before in
     let i = c .before .before .before .fill-inside in
     let z = length-set (st .args .out .now) 0 (c .before .before .before .before .before .window .result) in (
@@ -37,7 +37,7 @@ same-length : tie.Need-same-length
 same-length c = c .before .before .fill-rest .ensures .0 .same ∙ c .before .before .before .before .before .before .fill-inside .ensures .same ∙ length-set (c .before .before .before .before .before .before .before .before .before .before .before .before .args .out .now) 0 (c .before .before .before .before .before .before .before .before .window .result)
 
 returns : tie.Need-returns
-returns c = 
+returns c =
     let st = c .before .before .before .before .before .before .before .before .before .before .before .before in
     let i = c .before .before .before .before .before .before .fill-inside in
     let r = c .before .before .fill-rest in

@@ -10,7 +10,7 @@ refused-requires : tie.Need-refused-requires
 refused-requires c κs = search needs
 
 returns : tie.Need-returns
-returns c = 
+returns c =
     let a = c .before .before .before .before .args in
     rw (c .refused .ensures) (fills-refused _ (read-many 64 (a .s .now) (a .n) _ (c .before .if1 .taken)))
 
@@ -18,7 +18,7 @@ refused-requires-2 : tie.Need-refused-requires-2
 refused-requires-2 c κs = search needs
 
 returns-2 : tie.Need-returns-2
-returns-2 c = 
+returns-2 c =
     let a = c .before .before .before .before .before .args in
     rw (c .refused2 .ensures) (fills-refused _ (read-room 64 (a .s .now) (a .n) _ (c .before .before .if1 .left) (c .before .if2 .taken)))
 
@@ -32,7 +32,7 @@ same-length : tie.Need-same-length
 same-length c = search needs
 
 returns-3 : tie.Need-returns-3
-returns-3 c = 
+returns-3 c =
     let a = c .before .before .before .before .before .before .before .before .before .before .before .args in
     read-passed 64 (a .s .now) (a .n) (a .out .now) (omega arith) (omega arith) (c .before .before .before .through .ensures)
 
@@ -46,7 +46,7 @@ same-length-2 : tie.Need-same-length-2
 same-length-2 c = search needs
 
 returns-4 : tie.Need-returns-4
-returns-4 c = 
+returns-4 c =
     let a = c .before .before .before .before .before .before .before .before .before .before .before .before .args in
     read-passed 64 (a .s .now) (a .n) (a .out .now) (omega arith) (omega arith) (c .before .before .before .through2 .ensures)
 
@@ -60,7 +60,7 @@ same-length-3 : tie.Need-same-length-3
 same-length-3 c = search needs
 
 returns-5 : tie.Need-returns-5
-returns-5 c = 
+returns-5 c =
     let a = c .before .before .before .before .before .before .before .before .before .before .before .before .args in
     read-passed 64 (a .s .now) (a .n) (a .out .now) (omega arith) (omega arith) (c .before .before .before .through3 .ensures)
 

@@ -15,14 +15,14 @@ returns : tie.Need-returns
 returns c = (c .before .choose .ensures .0, fitted-none 64 (c .before .before .before .args .vs .now) (c .if1 .taken))
 
 add-t5 : tie.Need-add-t5
-add-t5 c = 
+add-t5 c =
     let st = c .before .before .before .before in
     let k = c .before .before .choose in
     let l : 0 < length (st .args .vs .now) = omega (arith, c .before .if1 .left) in
     omega (arith, fitted-small 64 (k .result .width) (k .result .size) (st .args .vs .now) l (k .ensures .0) (k .ensures .1), st .pre)
 
 returns-2 : tie.Need-returns-2
-returns-2 c = 
+returns-2 c =
     let st = c .before .before .before .before in
     let k = c .before .before .choose in
     let l : 0 < length (st .args .vs .now) = omega (arith, c .before .if1 .left) in

@@ -17,7 +17,7 @@ returns : tie.Need-returns
 returns c = let st = c .before .before .before in put-none 64 (st .args .n) (st .args .vs .now) (st .args .part .now) (c .if1 .taken) (st .pre .2)
 
 put-field-requires : tie.Need-put-field-requires
-put-field-requires c κs = 
+put-field-requires c κs =
     let st = c .before .before .before .before in
     let some : 0 < length (st .args .vs .now) = omega (arith, c .before .if1 .left) in
     let size = part-size 64 (st .args .n) (st .args .vs .now) (st .args .part .now) some (st .pre .2) in
@@ -27,7 +27,7 @@ shared-slice-read-put-field : tie.Need-shared-slice-read-put-field
 shared-slice-read-put-field c = search needs
 
 put-field-requires-2 : tie.Need-put-field-requires-2
-put-field-requires-2 c κs = 
+put-field-requires-2 c κs =
     let st = c .before .before .before .before .before .before .before .before .before in
     let some : 0 < length (st .args .vs .now) = omega (arith, c .before .before .before .before .before .before .if1 .left) in
     let size = part-size 64 (st .args .n) (st .args .vs .now) (st .args .part .now) some (st .pre .2) in
@@ -37,24 +37,29 @@ marker-requires : tie.Need-marker-requires
 marker-requires c κs = search needs
 
 put-entries-requires : tie.Need-put-entries-requires
-put-entries-requires c κs = 
+put-entries-requires c κs =
     let st = c .before .before .before .before .before .before .before .before .before .before .before .before .before .before in
     let some : 0 < length (st .args .vs .now) = omega (arith, c .before .before .before .before .before .before .before .before .before .before .before .if1 .left) in
-    let size = part-size 64 (st .args .n) (st .args .vs .now) (st .args .part .now) some (st .pre .2) in
-    (st .pre .0, c .marker .ensures, some, st .pre .1, omega (
-      arith,
-      size,
-      ap length (c .before .before .before .before .put-field2 .ensures),
-      length-put (c .before .before .before .before .before .before .before .before .before .put-field .last .0) 8 (getD (st .args .vs .now) 0 0),
-      ap length (c .before .before .before .before .before .before .before .before .before .put-field .ensures),
-      length-put (st .args .part .now) 0 (st .args .n)
-    ))
+    let size = part-size 64 (st .args .n) (st .args .vs .now) (st .args .part .now) some (st .pre .2) in (
+      st .pre .0,
+      c .marker .ensures,
+      some,
+      st .pre .1,
+      omega (
+        arith,
+        size,
+        ap length (c .before .before .before .before .put-field2 .ensures),
+        length-put (c .before .before .before .before .before .before .before .before .before .put-field .last .0) 8 (getD (st .args .vs .now) 0 0),
+        ap length (c .before .before .before .before .before .before .before .before .before .put-field .ensures),
+        length-put (st .args .part .now) 0 (st .args .n),
+      ),
+    )
 
 sub-put-field : tie.Need-sub-put-field
 sub-put-field c = search needs
 
 put-field-requires-3 : tie.Need-put-field-requires-3
-put-field-requires-3 c κs = 
+put-field-requires-3 c κs =
     let st = c .before .before .before .before .before .before .before .before .before .before .before .before .before .before .before .before .before .before in
     let some : 0 < length (st .args .vs .now) = omega (arith, c .before .before .before .before .before .before .before .before .before .before .before .before .before .before .before .if1 .left) in
     let size = part-size 64 (st .args .n) (st .args .vs .now) (st .args .part .now) some (st .pre .2) in
@@ -64,7 +69,7 @@ same-length : tie.Need-same-length
 same-length c = search needs
 
 returns-2 : tie.Need-returns-2
-returns-2 c = 
+returns-2 c =
     let st = c .before .before .before .before .before .before .before .before .before .before .before .before .before .before .before .before .before .before .before .before .before in
     let some : 0 < length (st .args .vs .now) = omega (arith, c .before .before .before .before .before .before .before .before .before .before .before .before .before .before .before .before .before .before .if1 .left) in
     put-all 64 (st .args .n) (st .args .vs .now) (st .args .part .now) some (st .pre .2) (c .before .before .before .before .before .before .before .before .before .before .before .before .before .before .before .before .put-field .last .0) (c .before .before .before .before .before .before .before .before .before .before .before .put-field2 .last .0) (c .before .before .before .before .before .before .put-entries .last .0) (c .before .before .put-field3 .last .0) (c .before .before .before .before .before .before .put-entries .result)

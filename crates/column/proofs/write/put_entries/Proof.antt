@@ -17,7 +17,7 @@ shared-slice-read-a : tie.Need-shared-slice-read-a Inv-loop μ-loop
 shared-slice-read-a c = omega arith
 
 loop-holds : tie.Need-loop-holds Inv-loop μ-loop
-loop-holds c = 
+loop-holds c =
     let st = c .before .before .before in
     putting-none 64 (st .args .n) (st .args .vs .now) (st .args .part .now) (st .pre .2)
 
@@ -28,7 +28,7 @@ shared-slice-read-v : tie.Need-shared-slice-read-v Inv-loop μ-loop
 shared-slice-read-v c = omega arith
 
 put-entry-requires : tie.Need-put-entry-requires Inv-loop μ-loop
-put-entry-requires c κs = 
+put-entry-requires c κs =
     let st = c .before .before .before .before .before .before .before in
     let p = c .before .before .before .loop .inv in
     (st .pre .0, st .pre .1, putting-room p (c .before .before .loop-test .taken) (st .pre .4), omega (arith, putting-small p (st .pre .0), st .pre .3))

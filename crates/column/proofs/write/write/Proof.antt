@@ -17,7 +17,7 @@ refused-requires : tie.Need-refused-requires
 refused-requires c κs = search needs
 
 returns : tie.Need-returns
-returns c = 
+returns c =
     let a = c .before .before .before .before .args in
     rw (c .refused .ensures) (fills-refused _ (write-many 64 (a .vs .now) _ (c .before .if1 .taken)))
 
@@ -28,7 +28,7 @@ refused-requires-2 : tie.Need-refused-requires-2
 refused-requires-2 c κs = search needs
 
 returns-2 : tie.Need-returns-2
-returns-2 c = 
+returns-2 c =
     let a = c .before .before .before .before .before .before .args in
     rw (c .refused2 .ensures) (fills-refused _ (write-room 64 (a .vs .now) (length (a .out .now)) (c .before .before .before .if1 .left) (omega (arith, c .before .before .fit .ensures .1, c .before .if2 .taken))))
 
@@ -39,7 +39,7 @@ slice-aggregate-put : tie.Need-slice-aggregate-put
 slice-aggregate-put c = sym (length-take-le (c .before .before .fit .result .bytes) (c .before .before .before .before .before .before .args .out .now) (c .before .if2 .left))
 
 put-requires : tie.Need-put-requires
-put-requires c κs = 
+put-requires c κs =
     let a = c .before .before .before .before .before .before .args in
     let f = c .before .before .fit in (
       omega (arith, f .ensures .0, width-least 64 (a .vs .now) .within),
@@ -51,7 +51,7 @@ same-length : tie.Need-same-length
 same-length c = search needs
 
 returns-3 : tie.Need-returns-3
-returns-3 c = 
+returns-3 c =
     let a = c .before .before .before .before .before .before .before .before .before .args in
     let f = c .before .before .before .before .before .fit in
     fills-ok (encode 64 (a .vs .now)) (f .result .bytes) _ (write-bytes 64 (a .vs .now) (length (a .out .now)) (c .before .before .before .before .before .before .if1 .left) (omega (arith, f .ensures .1, c .before .before .before .before .if2 .left))) (f .ensures .1)

@@ -1,0 +1,4 @@
+pub mod RoundTrip
+pub mod LeastSize
+pub mod Accepted
+pub mod Worked

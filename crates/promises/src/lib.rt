@@ -1,0 +1,1 @@
+// What the services promise, as theorems about their own definitions: see proofs/. There is no code here.
