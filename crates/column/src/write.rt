@@ -61,7 +61,8 @@ pub fn put(part: &mut [u8], vs: &[u64], n: u64)
     requires { ⌜ (n ≤ 64) × (length (now vs) ≤ 2048) × (length (now part) ≡ length (encodeAt 64 n (now vs))) ⌝ }
     ensures { λ r. ⌜ now (part .exit) ≡ encodeAt 64 n (now (vs .entry)) ⌝ }
 {
-    if vs.len() == 0 {
+    let count = vs.len();
+    if count == 0 {
         return;
     }
     le::bits::put_field(part, 0, 8, n);

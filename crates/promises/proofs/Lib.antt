@@ -1,4 +1,5 @@
 pub mod RoundTrip
 pub mod LeastSize
 pub mod Accepted
+pub mod Determined
 pub mod Worked
