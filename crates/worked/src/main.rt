@@ -12,6 +12,9 @@ fn main() {
 
 // Writes vs into a room of 24 bytes that holds 170, and prints the answer and what the room held back.
 fn try_write(vs: &[u64]) {
+    say(b"values");
+    show_values(vs, vs.len());
+    say(b": ");
     let mut room = [170u8; 24];
     match column::write::write(vs, &mut room) {
         Filled::Start(n) => {
@@ -28,6 +31,11 @@ fn try_write(vs: &[u64]) {
 
 // Reads n values of s into a room of 4 values that holds 77, and prints the answer and what the room held back.
 fn try_read(s: &[u8], n: usize) {
+    say(b"bytes");
+    show_bytes(s, s.len());
+    say(b" as ");
+    show_number(n as u64);
+    say(b": ");
     let mut room = [77u64; 4];
     match column::read::read(s, n, &mut room) {
         Filled::Start(k) => {
