@@ -61,17 +61,17 @@ module _ (s : List ℕ) (e : ℕ) (h : Bytes s) (l : whole e ≡ length s) where
 -- ---- decoding, by its outcome
 
 module _ (P : ℕ) (s : List ℕ) (n : ℕ) where
-  none : n ≡ 0 → decodeOf P s n ≡ closed s 0 (ok [])
+  pub decode-zero : n ≡ 0 → decodeOf P s n ≡ closed s 0 (ok [])
   unfolding decodeOf
-  none e = simp (eq-eqb _ _ e)
+  decode-zero e = simp (eq-eqb _ _ e)
 
   pub decode-none : n ≡ 0 → length s ≡ 0 → Bytes s → decodeOf P s n ≡ ok []
   decode-none e l h =
       let z : 8 * length s ≤ 0 = omega arith in
-      none e ∙ closed-good s 0 (ok []) (sym l) (lt-of-lt-of-le (number-lt s h) (pow-mono z))
+      decode-zero e ∙ closed-good s 0 (ok []) (sym l) (lt-of-lt-of-le (number-lt s h) (pow-mono z))
 
   pub decode-none-bits : n ≡ 0 → (length s ≡ 0 → ⊥) → decodeOf P s n ≡ refused (because Table.bits)
-  decode-none-bits e l = none e ∙ closed-bits s 0 (ok []) (λ q. l (sym q))
+  decode-none-bits e l = decode-zero e ∙ closed-bits s 0 (ok []) (λ q. l (sym q))
 
   module _ (h0 : n ≡ 0 → ⊥) where
     some : decodeOf P s n ≡ someOf P s n
@@ -192,7 +192,7 @@ some-ok P s n l h0 h =
 
 pub none-ok : (P : ℕ) (s : List ℕ) (n : ℕ) (l : List ℕ) → n ≡ 0 → decodeOf P s n ≡ ok l → (length s ≡ 0) × (l ≡ [])
 none-ok P s n l e h =
-    let r = closed-ok s 0 (ok []) l (sym (none P s n e) ∙ h) in
+    let r = closed-ok s 0 (ok []) l (sym (decode-zero P s n e) ∙ h) in
     (sym (r .0), sym (ok-inj (r .2)))
 
 -- the scratch then holds the values

@@ -9,7 +9,7 @@ use native.Mathlib.Nat.{add-zero, add-assoc, add-comm, mod-one, mod-lt, lt-of-lt
 use native.Mathlib.Decide.{decLt}
 use native.Mathlib.Omega.{arith}
 use lib.Dec.{ltb}
-use lib.ListN.{length}
+use lib.ListN.{length, take}
 use lib.Pow.{pow-pos, pow-mono, ones-lt, le-ones, shr-shr, mod-pow-add}
 use borrow.Author.Tests.{lt-ltb, le-ltb}
 use Rattle.le.specs.Number.{field}
@@ -59,6 +59,12 @@ size-le P b n at h =
     (λ (l : marker n ≤ field b at n). omega (arith, size-full P b n at 0 (field b at n) refl l))
     (short-or-full (field b at n) (marker n))
 
+pub size-least : (P b n at : ℕ) → n ≤ sizeAt P b n at
+size-least P b n at =
+    ⊎-elim (λ (l : field b at n < marker n). omega (arith, size-short P b n at 0 (field b at n) refl l))
+    (λ (l : marker n ≤ field b at n). omega (arith, size-full P b n at 0 (field b at n) refl l))
+    (short-or-full (field b at n) (marker n))
+
 pub value-lt : (P b n at a : ℕ) → valueAt P b n at a < 2 ^ P
 value-lt P b n at a =
     ⊎-elim (λ (l : field b at n < marker n). rw (value-short P b n at a (field b at n) refl l) (mod-lt (a + unzigzag P (field b at n)) (pow-pos P)))
@@ -83,6 +89,19 @@ pub after-le : (P b n k at : ℕ) → at ≤ after P b n k at
 unfolding after
 after-le P b n zero at = omega arith
 after-le P b n (suc k) at = omega (arith, after-le P b n k (at + sizeAt P b n at))
+
+pub after-mono : (P b n at j k : ℕ) → j ≤ k → after P b n j at ≤ after P b n k at
+unfolding after
+after-mono P b n at zero k h = after-le P b n k at
+after-mono P b n at (suc j) zero h = absurd (omega arith)
+after-mono P b n at (suc j) (suc k) h = after-mono P b n (at + sizeAt P b n at) j k (omega arith)
+
+-- the first of more values
+pub take-values : (P b n at a j k : ℕ) → j ≤ k → take j (values P b n k at a) ≡ values P b n j at a
+unfolding values
+take-values P b n at a zero k h = refl
+take-values P b n at a (suc j) zero h = absurd (omega arith)
+take-values P b n at a (suc j) (suc k) h = ap (λ (l : List ℕ). valueAt P b n at a ∷ l) (take-values P b n (at + sizeAt P b n at) (valueAt P b n at a) j k (omega arith))
 
 pub length-values : (P b n k at a : ℕ) → length (values P b n k at a) ≡ k
 unfolding values

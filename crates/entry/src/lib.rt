@@ -45,7 +45,7 @@ pub struct Given {
 
 // The entry at a place, after the value a; m is the marker of width n. Past the end of s bits are 0.
 pub fn entry_at(s: &[u8], at: usize, n: u64, m: u64, a: u64) -> Given
-    requires { ⌜ (n ≤ 64) × (m ≡ marker n) × (at < 2 ^ 62) ⌝ }
+    requires { ⌜ (n ≤ 64) × (m ≡ marker n) × (at + sizeAt 64 (number (now s)) n at < 2 ^ 64) ⌝ }
     ensures { λ r. ⌜ (r .value ≡ valueAt 64 (number (now (s .entry))) n at a) × (r .next ≡ at + sizeAt 64 (number (now (s .entry))) n at) ⌝ }
 {
     let e = le::bits::field(s, at, n);

@@ -2,12 +2,16 @@
 // which was worked out from document 01 by other means.
 use answer::Filled;
 use answer::Refusal;
+use column::Position;
+use reader::Answer;
 
 fn main() {
     written_rows();
     read_rows();
     refused_rows();
     limit_rows();
+    run_rows();
+    position_rows();
 }
 
 // Writes vs into a room of 24 bytes that holds 170, and prints the answer and what the room held back.
@@ -108,6 +112,90 @@ fn limit_rows() {
     say(b"\n");
 }
 
+// Calls for one value after another from a fresh position, six times at the most, and prints what each gives.
+fn try_run(s: &[u8], n: usize) {
+    say(b"bytes");
+    show_bytes(s, s.len());
+    say(b" as ");
+    show_number(n as u64);
+    say(b", one by one:");
+    let mut p = Position {
+        at: 0,
+        given: 0,
+        width: 0,
+        last: 0,
+    };
+    let mut calls: usize = 0;
+    while calls < 6 {
+        p = try_next(s, n, p);
+        calls += 1;
+    }
+    say(b"\n");
+}
+
+// One call: prints what it gives, and gives the position that it hands back.
+fn try_next(s: &[u8], n: usize, p: Position) -> Position {
+    match reader::next(s, n, p) {
+        Answer::Value(v, q) => {
+            say(b" ");
+            show_number(v);
+            q
+        }
+        Answer::End(q) => {
+            say(b" end");
+            q
+        }
+        Answer::Refused(w, q) => {
+            say(b" ");
+            show_refusal(w);
+            q
+        }
+    }
+}
+
+// One call at a made-up position: what it gives, and the position that it hands back.
+fn try_at(s: &[u8], n: usize, at: usize, given: usize, width: u64) {
+    say(b"at");
+    let p = Position {
+        at,
+        given,
+        width,
+        last: 40,
+    };
+    show_position(p);
+    say(b":");
+    let q = try_next(s, n, p);
+    say(b", then");
+    show_position(q);
+    say(b"\n");
+}
+
+// Runs from a fresh position; once the end or a refusal has come, each further call gives it again.
+fn run_rows() {
+    let none: [u8; 0] = [];
+    try_run(&[2, 0, 0, 0, 0, 0, 0, 0, 0, 3, 0, 0, 0, 0, 4, 0, 0, 8], 3);
+    try_run(&none, 0);
+    try_run(&[7], 0);
+    try_run(&[0x41, 0, 0, 0, 0, 0, 0, 0, 0, 0], 2);
+    try_run(&[2, 9, 0, 0, 0, 0, 0, 0, 0, 6], 2);
+    try_run(&[2, 9, 0, 0, 0, 0, 0, 0, 0, 3], 2);
+    try_run(&none, 2049);
+}
+
+// Positions that no call handed back: width, then place, then the end's rules.
+fn position_rows() {
+    let s: [u8; 10] = [2, 0, 0, 0, 0, 0, 0, 0, 0, 2];
+    try_at(&s, 2, 72, 1, 2);
+    try_at(&s, 2, 74, 2, 2);
+    try_at(&s, 2, 72, 9, 2);
+    try_at(&s, 2, 80, 1, 0);
+    try_at(&s, 2, 81, 2, 2);
+    try_at(&s, 2, 81, 1, 65);
+    try_at(&s, 2, 0xFFFF_FFFF_FFFF_FFFF, 1, 64);
+    try_at(&s, 2, 0xFFFF_FFFF_FFFF_FFFF, 0, 255);
+    try_at(&s, 2, 76, 1, 3);
+}
+
 // ---- printing
 
 // Some text, as it is.
@@ -180,4 +268,16 @@ fn show_values_kept(room: &[u64], n: usize, held: u64) {
     say(b", kept ");
     show_number(kept);
     say(b"\n");
+}
+
+// A position: place, values given, width and last value.
+fn show_position(p: Position) {
+    say(b" ");
+    show_number(p.at as u64);
+    say(b" ");
+    show_number(p.given as u64);
+    say(b" ");
+    show_number(p.width);
+    say(b" ");
+    show_number(p.last);
 }

@@ -1,6 +1,7 @@
 -- `entry::entry_at` gives the value and the place after it that the entry says, by the entry's two cases. Assumes nothing.
+use native.Mathlib.Omega.{arith}
 use Rattle.le.specs.Number.{number}
-use Rattle.entry.proofs.Reading.{given-short, given-full}
+use Rattle.entry.proofs.Reading.{given-short, given-full, size-least}
 use borrow.Author.Needs.{needs}
 use Rattle.entry.proofs.entry_at.Statement.{statement}
 use Rattle.entry.proofs.entry_at.Tie as tie
@@ -9,7 +10,7 @@ field-requires : tie.Need-field-requires
 field-requires c κs = search needs
 
 add-p : tie.Need-add-p
-add-p c = search needs
+add-p c = let st = c .before .before in omega (arith, size-least 64 (number (st .args .s .now)) (st .args .n) (st .args .at), st .pre .2)
 
 unzigzag-requires : tie.Need-unzigzag-requires
 unzigzag-requires c κs = search needs
@@ -21,7 +22,11 @@ window-requires : tie.Need-window-requires
 window-requires c κs = search needs
 
 add-t14 : tie.Need-add-t14
-add-t14 c = search needs
+add-t14 c =
+    let st = c .before .before .before .before in
+    let g = given-full 64 (number (st .args .s .now)) (st .args .n) (st .args .at) (st .args .a) (c .before .before .field .result) (c .before .before .field .ensures)
+    (st .args .m) (c .window .result) (st .pre .1) (c .before .if1 .left) (c .window .ensures) in
+    omega (arith, g .1, st .pre .2)
 
 returns : tie.Need-returns
 returns c =

@@ -3,6 +3,7 @@ use Prim.Native.Nat.{_-_}
 use native.Mathlib.Omega.{arith}
 use borrow.Author.Needs.{needs}
 use Rattle.le.specs.Number.{number}
+use Rattle.entry.proofs.Reading.{size-le}
 use Rattle.column.specs.Filling.{Went}
 use Rattle.column.proofs.Filling.{position, went-none, went-more}
 use Rattle.column.proofs.read.fill_rest.Statement.{statement}
@@ -18,7 +19,10 @@ loop-holds : tie.Need-loop-holds Inv-loop μ-loop
 loop-holds c = went-none (c .before .before .pre .2)
 
 entry-at-requires : tie.Need-entry-at-requires Inv-loop μ-loop
-entry-at-requires c κs = let st = c .before .before .before .before in (st .pre .0, st .pre .1, omega (arith, c .before .loop .inv .bound))
+entry-at-requires c κs =
+    let st = c .before .before .before .before in
+    let l = c .before .loop in
+    (st .pre .0, st .pre .1, omega (arith, l .inv .bound, size-le 64 (number (st .args .s .now)) (st .args .from .width) (l .at) (st .pre .0)))
 
 mul-out : tie.Need-mul-out Inv-loop μ-loop
 mul-out c = omega arith
