@@ -1,4 +1,5 @@
--- What a service comes to: its refusal, or its value. A service's definition is its own order of `need` and `on`, read from the top.
+-- What a service comes to: its refusal, or its value. A service's definition is its own order of `need` and `on`, read from the top. Assumes
+-- nothing.
 use Prim.Native.Nat.{ℕ}
 use mathlib.Core.Path.{_≡_}
 use mathlib.Core.Bool.{Bool, true, false}

@@ -1,4 +1,5 @@
 -- A refusal: a number of the table and a page, one value. Its page is set by `onPage` alone; otherwise it is passed on whole.
+-- Assumes nothing.
 use Prim.Native.Nat.{ℕ}
 use Rattle.answer.specs.declared.Refusal.{Refusal}
 
