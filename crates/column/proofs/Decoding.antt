@@ -91,6 +91,22 @@ module _ (P : ℕ) (s : List ℕ) (n : ℕ) where
       unfolding someOf
       decode-closed l = some ∙ met _ _ (le-leb 1 (length s) (omega arith)) ∙ met _ _ (le-leb _ _ l)
 
+-- ---- the same, where the code has found the place e at which the entries end
+
+module _ (P : ℕ) (s : List ℕ) (n : ℕ) (h0 : n ≡ 0 → ⊥) (hs : length s ≡ 0 → ⊥) (hw : getD s 0 0 ≤ P) (e : ℕ) (he : e ≡ endOf P s n) where
+  at-end : decodeOf P s n ≡ closed s e (ok (saidBy P s n))
+  at-end = rw he (decode-closed P s n h0 hs hw)
+
+  pub ended-bits : (whole e ≡ length s → ⊥) → decodeOf P s n ≡ refused (because Table.bits)
+  ended-bits l = at-end ∙ closed-bits s e (ok (saidBy P s n)) l
+
+  module _ (b : Bytes s) (l : whole e ≡ length s) where
+    pub ended-fill : (number s / 2 ^ e % 2 ^ 64 ≡ 0 → ⊥) → decodeOf P s n ≡ refused (because Table.fill)
+    ended-fill z = at-end ∙ closed-fill s e (ok (saidBy P s n)) l (fill-some s e b l z)
+
+    pub ended-good : number s / 2 ^ e % 2 ^ 64 ≡ 0 → decodeOf P s n ≡ ok (saidBy P s n)
+    ended-good z = at-end ∙ closed-good s e (ok (saidBy P s n)) l (fill-zero s e b l z)
+
 -- ---- reading, by its outcome
 
 module _ (P : ℕ) (s : List ℕ) (n size : ℕ) where
@@ -146,24 +162,21 @@ module _ (P : ℕ) (s : List ℕ) (n : ℕ) (d : List ℕ) where
       decodes-wide l = record { answer = rw (decode-wide P s n h0 hs l); scratch = scratch-wide h0 hs l }
 
       module _ (hw : getD s 0 0 ≤ P) (e : ℕ) (new : List ℕ) (he : e ≡ endOf P s n) (hn : new ≡ saidBy P s n ++ drop n d) where
-        at-end : decodeOf P s n ≡ closed s e (ok (saidBy P s n))
-        at-end = rw he (decode-closed P s n h0 hs hw)
-
         left : new ≡ scratchOf P s n d
         left = hn ∙ scratch-said h0 hs hw
 
         pub decodes-bits : (whole e ≡ length s → ⊥) → Decodes P s n d (Refused (because Table.bits)) new
         unfolding answered
-        decodes-bits l = record { answer = rw (at-end, closed-bits s e (ok (saidBy P s n)) l); scratch = left }
+        decodes-bits l = record { answer = rw (ended-bits P s n h0 hs hw e he l); scratch = left }
 
         module _ (b : Bytes s) (l : whole e ≡ length s) where
           pub decodes-fill : (number s / 2 ^ e % 2 ^ 64 ≡ 0 → ⊥) → Decodes P s n d (Refused (because Table.fill)) new
           unfolding answered
-          decodes-fill z = record { answer = rw (at-end, closed-fill s e (ok (saidBy P s n)) l (fill-some s e b l z)); scratch = left }
+          decodes-fill z = record { answer = rw (ended-fill P s n h0 hs hw e he b l z); scratch = left }
 
           pub decodes-good : number s / 2 ^ e % 2 ^ 64 ≡ 0 → Decodes P s n d (Start n) new
           unfolding answered
-          decodes-good z = record { answer = rw (at-end, closed-good s e (ok (saidBy P s n)) l (fill-zero s e b l z)) (ap Start (sym (length-said P s n (omega arith)))); scratch = left }
+          decodes-good z = record { answer = rw (ended-good P s n h0 hs hw e he b l z) (ap Start (sym (length-said P s n (omega arith)))); scratch = left }
 
 -- ---- where a value comes, what held
 

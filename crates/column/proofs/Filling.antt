@@ -71,6 +71,11 @@ went-on g h = record {
   bound = omega (arith, g .bound, h .bound);
 }
 
+-- the same, where the width is known by another name
+pub went-again : {P b n at i w a : ℕ} {p : Position} {d e f : List ℕ} (r : Position) → Went P b n p d (position at i w a) e → Went P b n (position at i w a) e r f
+    → Went P b n p d (position (r .at) (r .given) w (r .last)) f
+went-again {P} {b} {n} {at} {i} {w} {a} {p} {d} {e} {f} r g h = subst (λ (x : ℕ). Went P b n p d (position (r .at) (r .given) x (r .last)) f) (h .width) (went-on g h)
+
 -- a walk to the end has given what was to come, and stands at its end
 pub went-through : {P b n : ℕ} {p q : Position} {d e : List ℕ} → Went P b n p d q e → q .given ≡ n
     → (q .at ≡ endFrom P b n p) × (e ≡ (take (p .given) d ++ toCome P b n p) ++ drop n d)

@@ -1,43 +1,88 @@
 // Reading a column: N values of its bytes, or the refusal.
 ghost use mathlib.Core.Path.{_≡_};
-ghost use mathlib.Core.List.{_++_};
-ghost use Prim.Native.Nat.{_+_, _*_, _≤_, _<_};
+ghost use mathlib.Core.List.{[], _∷_, _++_};
+ghost use Prim.Native.Nat.{_+_, _-_, _*_, _≤_, _<_};
 ghost use lib.ListN.{length, take, drop, getD};
 ghost use Rattle.answer.specs.Outcome.{Fills};
-ghost use Rattle.le.specs.Number.{number};
+ghost use Rattle.le.specs.Number.{number, field};
 ghost use Rattle.entry.specs.Step.{marker};
 ghost use Rattle.column.specs.Read.{saidBy, endOf, decodeOf, readOf, Decodes};
 ghost use Rattle.column.specs.Filling.{Went};
 use crate::Position;
 use crate::refused;
 use answer::Filled;
+use entry::Given;
 
-// The byte below which an entry has 17 bytes from its first one on; 0 where there is none.
-fn reach(len: usize) -> usize
-    ensures { λ r. ⌜ (0 < r → r + 17 ≤ len) ⌝ }
+// The bits of so many bytes, as far as a column can reach.
+fn bits_of(len: usize) -> usize
+    ensures { λ r. ⌜ (r ≤ 8 * len) × (r ≤ 524288) ⌝ }
 {
-    if len < 17 {
-        return 0;
+    if 65536 < len {
+        return 524288;
     }
-    len - 17
+    8 * len
 }
 
-// Gives values into out as long as an entry is sure to lie inside s: a loop without a test for the end.
-fn fill_inside(s: &[u8], n: usize, m: u64, from: Position, out: &mut [u64]) -> Position
-    requires { ⌜ (from .width ≤ 64) × (m ≡ marker (from .width)) × (from .given ≤ n) × (n ≤ 2048) × (n ≤ length (now out)) × (from .at ≤ 72) ⌝ }
-    ensures { λ r. ⌜ Went 64 (number (now (s .entry))) n from (now (out .entry)) r (now (out .exit)) ⌝ }
+// The number up to which values may be given with no test for the end: were each entry 128 bits long, they would end inside the bits.
+fn sure_up_to(bits: usize, at: usize, given: usize, n: usize) -> usize
+    requires { ⌜ (given ≤ n) × (n ≤ 2048) ⌝ }
+    ensures { λ r. ⌜ (given ≤ r) × (r ≤ n) × (given < r → at + 128 * (r - given) < bits) ⌝ }
 {
-    let lim = reach(s.len());
+    if bits <= at {
+        return given;
+    }
+    let k = (bits - at - 1) / 128;
+    if n - given < k { n } else { given + k }
+}
+
+// Gives values into out up to a number for which that is sure: a loop without a test for the end.
+fn fill_sure(s: &[u8], n: usize, stop: usize, m: u64, from: Position, out: &mut [u64]) -> Position
+    requires { ⌜ (from .width ≤ 64) × (m ≡ marker (from .width)) × (from .given ≤ stop) × (stop ≤ n) × (n ≤ 2048) × (n ≤ length (now out))
+        × (from .at + 128 * (stop - from .given) < 8 * length (now s)) × (from .at ≤ 72 + 128 * 2048) ⌝ }
+    ensures { λ r. ⌜ (Went 64 (number (now (s .entry))) n from (now (out .entry)) r (now (out .exit))) × (r .given ≡ stop) ⌝ }
+{
     let w = from.width;
     let mut at = from.at;
     let mut last = from.last;
     let mut i = from.given;
-    while i < n && at / 8 < lim {
+    while i < stop {
         let e = entry::entry_inside(s, at, w, m, last);
         at = e.next;
         last = e.value;
         out[i] = last;
         i += 1;
+    }
+    Position {
+        at,
+        given: i,
+        width: w,
+        last,
+    }
+}
+
+// Gives values into out as long as some entries are sure to lie inside s, as many at a time as are.
+fn fill_inside(s: &[u8], n: usize, m: u64, from: Position, out: &mut [u64]) -> Position
+    requires { ⌜ (from .width ≤ 64) × (m ≡ marker (from .width)) × (from .given ≤ n) × (n ≤ 2048) × (n ≤ length (now out)) × (from .at ≤ 72) ⌝ }
+    ensures { λ r. ⌜ Went 64 (number (now (s .entry))) n from (now (out .entry)) r (now (out .exit)) ⌝ }
+{
+    let bits = bits_of(s.len());
+    let w = from.width;
+    let mut at = from.at;
+    let mut last = from.last;
+    let mut i = from.given;
+    let mut stop = sure_up_to(bits, at, i, n);
+    while i < stop {
+        let here = Position {
+            at,
+            given: i,
+            width: w,
+            last,
+        };
+        let p = fill_sure(s, n, stop, m, here, out);
+        at = p.at;
+        last = p.last;
+        i = p.given;
+        stop = sure_up_to(bits, at, i, n);
     }
     Position {
         at,
@@ -145,8 +190,107 @@ fn through(s: &[u8], n: usize, scratch: &mut [u64], out: &mut [u64]) -> Filled
     }
 }
 
-// The n values of a column into the start of out. The scratch is as long as it need be: clearing 16 KiB for 200 values would cost more than
-// reading them.
+// Where the entries of one or two values end, and the second value; a is the first.
+fn second(s: &[u8], n: usize, w: u64, a: u64) -> Given
+    requires { ⌜ (w ≡ getD (now s) 0 0) × (w ≤ 64) × (a ≡ field (number (now s)) 8 64) × (0 < n) × (n ≤ 2) ⌝ }
+    ensures { λ r. ⌜ (r .next ≡ endOf 64 (now (s .entry)) n) × (saidBy 64 (now (s .entry)) n ≡ take n (a ∷ r .value ∷ [])) × (r .next ≤ 200) ⌝ }
+{
+    if n == 1 {
+        return Given { value: a, next: 72 };
+    }
+    entry::entry_at(s, 72, w, entry::marker(w), a)
+}
+
+// Reads one or two values with no scratch: all is known of them before the room is touched.
+fn read_pair(s: &[u8], n: usize, out: &mut [u64]) -> Filled
+    requires { ⌜ (0 < n) × (n ≤ 2) × (n ≤ length (now out)) ⌝ }
+    ensures { λ r. ⌜ Fills (decodeOf 64 (now (s .entry)) n) (now (out .entry)) r (now (out .exit)) ⌝ }
+{
+    let len = s.len();
+    if len == 0 {
+        return refused(answer::table::BITS);
+    }
+    let w = le::number::wide(s[0]);
+    if 64 < w {
+        return refused(answer::table::WIDTH);
+    }
+    let a = le::bits::window(s, 8);
+    let e = second(s, n, w, a);
+    let end = e.next;
+    if (end + 7) / 8 != len {
+        return refused(answer::table::BITS);
+    }
+    if le::bits::window(s, end) != 0 {
+        return refused(answer::table::FILL);
+    }
+    out[0] = a;
+    if n == 1 {
+        return Filled::Start(1);
+    }
+    out[1] = e.value;
+    Filled::Start(2)
+}
+
+// Decodes through a scratch of 32 values.
+fn through_32(s: &[u8], n: usize, out: &mut [u64]) -> Filled
+    requires { ⌜ (n ≤ 32) × (n ≤ length (now out)) ⌝ }
+    ensures { λ r. ⌜ Fills (decodeOf 64 (now (s .entry)) n) (now (out .entry)) r (now (out .exit)) ⌝ }
+{
+    let mut own = [0u64; 32];
+    through(s, n, &mut own, out)
+}
+
+// Decodes through a scratch of 128 values.
+fn through_128(s: &[u8], n: usize, out: &mut [u64]) -> Filled
+    requires { ⌜ (n ≤ 128) × (n ≤ length (now out)) ⌝ }
+    ensures { λ r. ⌜ Fills (decodeOf 64 (now (s .entry)) n) (now (out .entry)) r (now (out .exit)) ⌝ }
+{
+    let mut own = [0u64; 128];
+    through(s, n, &mut own, out)
+}
+
+// Decodes through a scratch of 512 values.
+fn through_512(s: &[u8], n: usize, out: &mut [u64]) -> Filled
+    requires { ⌜ (n ≤ 512) × (n ≤ length (now out)) ⌝ }
+    ensures { λ r. ⌜ Fills (decodeOf 64 (now (s .entry)) n) (now (out .entry)) r (now (out .exit)) ⌝ }
+{
+    let mut own = [0u64; 512];
+    through(s, n, &mut own, out)
+}
+
+// Decodes through a scratch of 2,048 values.
+fn through_2048(s: &[u8], n: usize, out: &mut [u64]) -> Filled
+    requires { ⌜ (n ≤ 2048) × (n ≤ length (now out)) ⌝ }
+    ensures { λ r. ⌜ Fills (decodeOf 64 (now (s .entry)) n) (now (out .entry)) r (now (out .exit)) ⌝ }
+{
+    let mut own = [0u64; 2048];
+    through(s, n, &mut own, out)
+}
+
+// Reads through a scratch that is as long as it need be, or through none: clearing 16 KiB for 200 values would cost more than reading them.
+fn through_own(s: &[u8], n: usize, out: &mut [u64]) -> Filled
+    requires { ⌜ (n ≤ 2048) × (n ≤ length (now out)) ⌝ }
+    ensures { λ r. ⌜ Fills (decodeOf 64 (now (s .entry)) n) (now (out .entry)) r (now (out .exit)) ⌝ }
+{
+    if n == 0 {
+        return through_32(s, n, out);
+    }
+    if n <= 2 {
+        return read_pair(s, n, out);
+    }
+    if n <= 32 {
+        return through_32(s, n, out);
+    }
+    if n <= 128 {
+        return through_128(s, n, out);
+    }
+    if n <= 512 {
+        return through_512(s, n, out);
+    }
+    through_2048(s, n, out)
+}
+
+// The n values of a column into the start of out.
 pub fn read(s: &[u8], n: usize, out: &mut [u64]) -> Filled
     ensures { λ r. ⌜ Fills (readOf 64 (now (s .entry)) n (length (now (out .entry)))) (now (out .entry)) r (now (out .exit)) ⌝ }
 {
@@ -156,14 +300,5 @@ pub fn read(s: &[u8], n: usize, out: &mut [u64]) -> Filled
     if out.len() < n {
         return refused(answer::table::ROOM);
     }
-    if n <= 32 {
-        let mut few = [0u64; 32];
-        return through(s, n, &mut few, out);
-    }
-    if n <= 256 {
-        let mut some = [0u64; 256];
-        return through(s, n, &mut some, out);
-    }
-    let mut many = [0u64; 2048];
-    through(s, n, &mut many, out)
+    through_own(s, n, out)
 }

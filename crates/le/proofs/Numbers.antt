@@ -123,3 +123,11 @@ number-step s e p l =
 pub empty-law : (s : List ℕ) → 0 ≡ number (drop (length s) s)
 unfolding number
 empty-law s = sym (ap number (drop-length s))
+
+-- the bits from byte i on are what is left of a word that ends with the bytes
+pub last-law : (s : List ℕ) (f i : ℕ) → Bytes s → length s ≤ f + 8 → f ≤ i → number s / 2 ^ (8 * f) % 2 ^ 64 / 2 ^ ((i - f) * 8) ≡ number s / 2 ^ (8 * i) % 2 ^ 64
+last-law s f i h l q =
+    let e : 8 * f + (i - f) * 8 ≡ 8 * i = omega arith in
+    let whole : number s / 2 ^ (8 * f) % 2 ^ 64 ≡ number s / 2 ^ (8 * f) = ap (λ (x : ℕ). x % 2 ^ 64) (number-drop s f h) ∙ mod-eq-of-lt (tail-lt s f 8 h l) ∙ sym (number-drop s f h) in
+    let rest : number s / 2 ^ (8 * i) % 2 ^ 64 ≡ number s / 2 ^ (8 * i) = ap (λ (x : ℕ). x % 2 ^ 64) (number-drop s i h) ∙ mod-eq-of-lt (tail-lt s i 8 h (omega arith)) ∙ sym (number-drop s i h) in
+    ap (λ (x : ℕ). x / 2 ^ ((i - f) * 8)) whole ∙ shr-shr (number s) (8 * f) ((i - f) * 8) ∙ ap (λ (k : ℕ). number s / 2 ^ k) e ∙ sym rest

@@ -23,6 +23,16 @@ pub fn mask(x: u64, w: u64) -> u64
     (x << k) >> k
 }
 
+// The bits from byte i on, where fewer than 8 bytes are left of 8 or more: what is left of the last word.
+fn last(s: &[u8], i: usize) -> u64
+    requires { ⌜ (8 ≤ length (now s)) × (i < length (now s)) × (length (now s) < i + 8) ⌝ }
+    ensures { λ r. ⌜ r ≡ number (now (s .entry)) / 2 ^ (8 * i) % 2 ^ 64 ⌝ }
+{
+    let from = s.len() - 8;
+    let k = ((i - from) * 8) as u64;
+    u64_at(s, from) >> k
+}
+
 // The bits from byte i on, where fewer than 8 bytes are left.
 fn tail(s: &[u8], i: usize) -> u64
     requires { ⌜ length (now s) < i + 8 ⌝ }
@@ -31,6 +41,9 @@ fn tail(s: &[u8], i: usize) -> u64
     let n = s.len();
     if n <= i {
         return 0;
+    }
+    if 8 <= n {
+        return last(s, i);
     }
     let mut acc: u64 = 0;
     let mut e = n;
@@ -79,10 +92,9 @@ pub fn field(s: &[u8], at: usize, w: u64) -> u64
     requires { ⌜ w ≤ 64 ⌝ }
     ensures { λ r. ⌜ r ≡ field (number (now (s .entry))) at w ⌝ }
 {
-    let i = at / 8;
-    if w <= 56 && i + 8 <= s.len() {
+    if w <= 56 {
         let k = (at % 8) as u64;
-        return mask(u64_at(s, i) >> k, w);
+        return mask(load(s, at / 8) >> k, w);
     }
     mask(window(s, at), w)
 }

@@ -2,17 +2,13 @@
 use mathlib.Core.Path.{ap, _∙_}
 use Prim.Native.Nat.{ℕ, _%_, _^_}
 use Rattle.le.proofs.Fields.{mod-le-pow, near-law}
-use Rattle.le.proofs.Numbers.{number-at}
 use Rattle.le.specs.Number.{number}
 use borrow.Author.Needs.{needs}
 use Rattle.le.proofs.bits.field.Statement.{statement}
 use Rattle.le.proofs.bits.field.Tie as tie
 
-add-if2 : tie.Need-add-if2
-add-if2 c = search needs
-
-u64-at-requires : tie.Need-u64-at-requires
-u64-at-requires c κs = search needs
+load-requires : tie.Need-load-requires
+load-requires c κs = search needs
 
 shr-mask : tie.Need-shr-mask
 shr-mask c = search needs
@@ -22,8 +18,8 @@ mask-requires c κs = search needs
 
 returns : tie.Need-returns
 returns c =
-    let s = c .before .before .before .before .before in
-    c .mask .ensures ∙ near-law (number (s .args .s .now)) (s .args .at) (s .args .w) (c .before .u64-at .result) (c .before .before .before .if1 .taken) (c .before .u64-at .ensures ∙ number-at 8 _ _ (λ i. c .before .before .before .before .shared-slice-known .given i .fits))
+    let s = c .before .before .before .before in
+    c .mask .ensures ∙ near-law (number (s .args .s .now)) (s .args .at) (s .args .w) (c .before .load .result) (c .before .before .if1 .taken) (c .before .load .ensures)
 
 window-requires : tie.Need-window-requires
 window-requires c κs = search needs
@@ -40,8 +36,7 @@ pub field-spec : {M : Type 1} → statement M
 field-spec =
     tie.close
     (tie.spec
-    add-if2
-    u64-at-requires
+    load-requires
     shr-mask
     mask-requires
     returns

@@ -1,0 +1,85 @@
+-- The box of vertices: its four patterns are the first met of its least and greatest, it is of good form, it holds each of its vertices, and it
+-- covers the box of each part of them. Assumes nothing.
+use mathlib.Core.Path.{_≡_, ap, _∙_}
+use mathlib.Core.Bool.{true}
+use mathlib.Core.List.{List, [], _∷_}
+use Prim.Native.Nat.{ℕ, _+_, _≤_, _<_}
+use native.Mathlib.Omega.{arith}
+use lib.ListN.{length, getD, take, drop, length-take, length-drop}
+use Rattle.extent.specs.Rank.{finite, allFinite, atMost}
+use Rattle.extent.specs.Boxes.{Bounds, FiniteBox, inOrder, goodForm, Holds, boxOf}
+use Rattle.extent.proofs.Tests.{both}
+use Rattle.extent.proofs.Ranks.{at-most-trans}
+use Rattle.extent.proofs.Finite.{all-finite-at, four-finite}
+use Rattle.extent.proofs.Firsts.{Met, AtMost, Below, AtLeast, Above, least-met, greatest-met, met-part}
+use Rattle.extent.proofs.Forms.{order-good}
+
+-- each of the four is the first met of its least or greatest
+pub record Boxed (xs ys : List ℕ) (p : Bounds) : Type 0 where
+  pub least-x : Met AtMost Below xs (p .least-x)
+  pub least-y : Met AtMost Below ys (p .least-y)
+  pub greatest-x : Met AtLeast Above xs (p .greatest-x)
+  pub greatest-y : Met AtLeast Above ys (p .greatest-y)
+
+pub box-met : (xs ys : List ℕ) → 0 < length xs → 0 < length ys → Boxed xs ys (boxOf xs ys)
+unfolding boxOf
+box-met [] ys h k = absurd (omega arith)
+box-met (x ∷ xs) [] h k = absurd (omega arith)
+box-met (x ∷ xs) (y ∷ ys) h k = record { least-x = least-met x xs; least-y = least-met y ys; greatest-x = greatest-met x xs; greatest-y = greatest-met y ys }
+
+-- it holds each vertex
+pub box-holds : (xs ys : List ℕ) (i : ℕ) → i < length xs → length ys ≡ length xs → Holds (boxOf xs ys) (getD xs i 0) (getD ys i 0)
+box-holds xs ys i h l =
+    let k : i < length ys = omega arith in
+    let b = box-met xs ys (omega arith) (omega arith) in
+    record { from-x = b .least-x .best i h; to-x = b .greatest-x .best i h; from-y = b .least-y .best i k; to-y = b .greatest-y .best i k }
+
+-- what was met in a list of finite patterns is finite
+met-finite : (R S : ℕ → ℕ → Type 0) (l : List ℕ) (v : ℕ) → allFinite l ≡ true → Met R S l v → finite v ≡ true
+met-finite R S l v f m = ap finite (m .found) ∙ all-finite-at l (m .place) f (m .inside)
+
+pub box-finite : (xs ys : List ℕ) → 0 < length xs → 0 < length ys → allFinite xs ≡ true → allFinite ys ≡ true → FiniteBox (boxOf xs ys)
+box-finite xs ys h k f g =
+    let b = box-met xs ys h k in
+    record {
+      least-x = met-finite AtMost Below xs _ f (b .least-x);
+      least-y = met-finite AtMost Below ys _ g (b .least-y);
+      greatest-x = met-finite AtLeast Above xs _ f (b .greatest-x);
+      greatest-y = met-finite AtLeast Above ys _ g (b .greatest-y);
+    }
+
+-- least is at most greatest: the first vertex lies between
+met-between : (l : List ℕ) (v w : ℕ) → 0 < length l → Met AtMost Below l v → Met AtLeast Above l w → atMost v w ≡ true
+met-between l v w h m n = at-most-trans v (getD l 0 0) w (m .best 0 h) (n .best 0 h)
+
+pub box-good : (xs ys : List ℕ) → 0 < length xs → length ys ≡ length xs → allFinite xs ≡ true → allFinite ys ≡ true → goodForm (boxOf xs ys) ≡ true
+box-good xs ys h l f g = order-good (boxOf xs ys) (four-finite (boxOf xs ys) (box-finite xs ys h k f g)) order
+  where
+    k : 0 < length ys
+    k = omega arith
+
+    order : inOrder (boxOf xs ys) ≡ true
+    order =
+        let b = box-met xs ys h k in
+        unfold inOrder in both (met-between xs _ _ h (b .least-x) (b .greatest-x)) (met-between ys _ _ k (b .least-y) (b .greatest-y))
+
+-- ---- a box that covers another
+
+pub record Covers (p q : Bounds) : Type 0 where
+  pub from-x : atMost (p .least-x) (q .least-x) ≡ true
+  pub from-y : atMost (p .least-y) (q .least-y) ≡ true
+  pub to-x : atMost (q .greatest-x) (p .greatest-x) ≡ true
+  pub to-y : atMost (q .greatest-y) (p .greatest-y) ≡ true
+
+-- the box of all vertices covers that of the k vertices from i on
+pub covers-part : (xs ys : List ℕ) (i k : ℕ) → 0 < k → i + k ≤ length xs → length ys ≡ length xs
+    → Covers (boxOf xs ys) (boxOf (take k (drop i xs)) (take k (drop i ys)))
+covers-part xs ys i k h m l =
+    let b = box-met xs ys (omega arith) (omega arith) in
+    let c = box-met (take k (drop i xs)) (take k (drop i ys)) (simp (length-take, length-drop) (omega arith)) (simp (length-take, length-drop) (omega arith)) in
+    record {
+      from-x = met-part AtMost Below xs i k _ _ (b .least-x) (c .least-x);
+      from-y = met-part AtMost Below ys i k _ _ (b .least-y) (c .least-y);
+      to-x = met-part AtLeast Above xs i k _ _ (b .greatest-x) (c .greatest-x);
+      to-y = met-part AtLeast Above ys i k _ _ (b .greatest-y) (c .greatest-y);
+    }

@@ -1,0 +1,111 @@
+-- A box that came as four patterns: when it is good, and that its floats have these patterns. Assumes nothing.
+use mathlib.Core.Path.{_≡_, refl, sym, ap, _∙_}
+use mathlib.Core.Bool.{Bool, true, false, cond}
+use Prim.Native.Nat.{ℕ, _^_, _<_}
+use native.Mathlib.Omega.{arith}
+use lib.Dec.{T}
+use lib.Ieee.{binary64, fits}
+use lib.Ieee.Bits.{ofBits-toBits}
+use Rattle.extent.specs.Rank.{finite}
+use Rattle.extent.specs.Boxes.{Bounds, FiniteBox, patterns, fourFinite, inOrder, goodForm, spotOf}
+use Rattle.extent.specs.Forms.{floatsOf, formOf}
+use Rattle.extent.specs.declared.boxes.Box.{Box}
+use Rattle.extent.specs.declared.boxes.Form.the-variants.{Good, Bad}
+use Rattle.extent.proofs.Tests.{both, both-l, both-r}
+use Rattle.extent.proofs.Ranks.{at-most-refl}
+use Rattle.extent.proofs.Patterns.{bits-back}
+use Rattle.extent.proofs.Finite.{finite-box, four-finite}
+
+-- ---- good form is finite and in order
+
+pub good-finite : (p : Bounds) → goodForm p ≡ true → FiniteBox p
+unfolding goodForm
+good-finite p e = finite-box p (both-l (fourFinite p) (inOrder p) e)
+
+pub good-order : (p : Bounds) → goodForm p ≡ true → inOrder p ≡ true
+unfolding goodForm
+good-order p e = both-r (fourFinite p) (inOrder p) e
+
+pub order-good : (p : Bounds) → fourFinite p ≡ true → inOrder p ≡ true → goodForm p ≡ true
+unfolding goodForm
+order-good p f o = both f o
+
+-- a spot
+pub spot-good : (x y : ℕ) → finite x ≡ true → finite y ≡ true → goodForm (spotOf x y) ≡ true
+spot-good x y f g =
+    order-good (spotOf x y) (four-finite (spotOf x y) (record { least-x = f; least-y = g; greatest-x = f; greatest-y = g }))
+    (unfold inOrder in both (at-most-refl x) (at-most-refl y))
+
+-- ---- the three ends of the code
+
+pub form-made : (p : Bounds) (b : Box) → fourFinite p ≡ true → inOrder p ≡ true → b ≡ floatsOf p → Good b ≡ formOf p
+unfolding formOf goodForm
+form-made p b f o e = simp (f, o) (ap Good e)
+
+pub form-reversed : (p : Bounds) → fourFinite p ≡ true → inOrder p ≡ false → Bad ≡ formOf p
+unfolding formOf goodForm
+form-reversed p f o = simp (f, o)
+
+pub form-not-finite : (p : Bounds) → fourFinite p ≡ false → Bad ≡ formOf p
+unfolding formOf goodForm
+form-not-finite p f = simp f
+
+-- ---- what an answer says
+
+pub form-good : (p : Bounds) (b : Box) → formOf p ≡ Good b → (goodForm p ≡ true) × (b ≡ floatsOf p)
+unfolding formOf
+form-good p b = go (goodForm p)
+  where
+    go : (t : Bool) → cond t (Good (floatsOf p)) Bad ≡ Good b → (t ≡ true) × (b ≡ floatsOf p)
+    go true e = (refl, cc)
+    go false e = let z : _≡_ {A = ℕ} 0 1 = cc in absurd (omega arith)
+
+pub form-bad : (p : Bounds) → formOf p ≡ Bad → goodForm p ≡ false
+unfolding formOf
+form-bad p = go (goodForm p)
+  where
+    go : (t : Bool) → cond t (Good (floatsOf p)) Bad ≡ Bad → t ≡ false
+    go true e = let z : _≡_ {A = ℕ} 0 1 = cc in absurd (omega arith)
+    go false e = refl
+
+-- ---- patterns and floats
+
+-- four patterns of 64 bits
+pub record Words (p : Bounds) : Type 0 where
+  pub least-x : p .least-x < 2 ^ 64
+  pub least-y : p .least-y < 2 ^ 64
+  pub greatest-x : p .greatest-x < 2 ^ 64
+  pub greatest-y : p .greatest-y < 2 ^ 64
+
+-- each of the four is a 64-bit float, as those of each box that a program holds are
+pub record FitsBox (b : Box) : Type 0 where
+  pub least-x : T (fits binary64 (b .«least_x»))
+  pub least-y : T (fits binary64 (b .«least_y»))
+  pub greatest-x : T (fits binary64 (b .«greatest_x»))
+  pub greatest-y : T (fits binary64 (b .«greatest_y»))
+
+-- the patterns of the floats of four finite patterns are those
+pub floats-patterns : (p : Bounds) → Words p → FiniteBox p → patterns (floatsOf p) ≡ p
+floats-patterns p w f i = record {
+  least-x = bits-back (p .least-x) (w .least-x) (f .least-x) i;
+  least-y = bits-back (p .least-y) (w .least-y) (f .least-y) i;
+  greatest-x = bits-back (p .greatest-x) (w .greatest-x) (f .greatest-x) i;
+  greatest-y = bits-back (p .greatest-y) (w .greatest-y) (f .greatest-y) i;
+}
+
+pub good-patterns : (p : Bounds) (b : Box) → Words p → formOf p ≡ Good b → patterns b ≡ p
+good-patterns p b w e =
+    let g = form-good p b e in
+    ap patterns (g .1) ∙ floats-patterns p w (good-finite p (g .0))
+
+-- the floats of a box's patterns: two boxes with the same patterns are one
+pub floats-back : (b : Box) → FitsBox b → floatsOf (patterns b) ≡ b
+floats-back b f i = record {
+  «least_x» = ofBits-toBits binary64 (b .«least_x») (f .least-x) i;
+  «least_y» = ofBits-toBits binary64 (b .«least_y») (f .least-y) i;
+  «greatest_x» = ofBits-toBits binary64 (b .«greatest_x») (f .greatest-x) i;
+  «greatest_y» = ofBits-toBits binary64 (b .«greatest_y») (f .greatest-y) i;
+}
+
+pub box-determined : (a b : Box) → FitsBox a → FitsBox b → patterns a ≡ patterns b → a ≡ b
+box-determined a b f g e = sym (floats-back a f) ∙ ap floatsOf e ∙ floats-back b g

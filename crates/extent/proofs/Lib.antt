@@ -1,0 +1,15 @@
+pub mod Tests
+pub mod Fractions
+pub mod Magnitudes
+pub mod Patterns
+pub mod Signs
+pub mod Keys
+pub mod Order
+pub mod Ranks
+pub mod Finite
+pub mod Boxing
+pub mod Firsts
+pub mod Forms
+pub mod Boxed
+pub mod Meeting
+pub mod Sames

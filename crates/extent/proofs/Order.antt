@@ -1,0 +1,59 @@
+-- IEEE's `<`, `==` and `<=` of two finite floats are the orders of their patterns' ranks. Assumes nothing.
+use mathlib.Core.Path.{_≡_, sym, ap, _∙_}
+use mathlib.Core.Bool.{Bool, true, _||_}
+use Prim.Native.Nat.{ℕ, _%_, _^_, _≤_, _<_}
+use lib.Dec.{T, leb, ltb, eqb}
+use lib.Ieee.{Float, binary64, lt, eq, le, fits, ofBits, toBits}
+use lib.Ieee.Exact.{HasValue}
+use lib.Ieee.Bits.{ofBits-toBits}
+use Rattle.extent.specs.Rank.{rank, finite, atMost, below, sameValue}
+use Rattle.extent.proofs.Tests.{lt-or-eq}
+use Rattle.extent.proofs.Fractions.{lt-values, eq-values}
+use Rattle.extent.proofs.Patterns.{lt-bits, eq-bits, finite-size}
+use Rattle.extent.proofs.Signs.{below-signed, level-signed, le-split}
+use Rattle.extent.proofs.Keys.{keyOf, below-at, level-at}
+
+-- ---- the floats of two finite patterns
+pub lt-rank : (a b : ℕ) → finite a ≡ true → finite b ≡ true → lt (ofBits binary64 a) (ofBits binary64 b) ≡ below a b
+unfolding below rank
+lt-rank a b p q = lt-bits binary64 a b (finite-size a p) (finite-size b q) ∙ below-signed (leb (2 ^ 63) a) (leb (2 ^ 63) b) (a % 2 ^ 63) (b % 2 ^ 63)
+
+pub eq-rank : (a b : ℕ) → finite a ≡ true → finite b ≡ true → eq (ofBits binary64 a) (ofBits binary64 b) ≡ sameValue a b
+unfolding sameValue rank
+eq-rank a b p q = eq-bits binary64 a b (finite-size a p) (finite-size b q) ∙ level-signed (leb (2 ^ 63) a) (leb (2 ^ 63) b) (a % 2 ^ 63) (b % 2 ^ 63)
+
+at-most-split : (a b : ℕ) → (below a b || sameValue a b) ≡ atMost a b
+unfolding below sameValue atMost
+at-most-split a b = le-split (rank a) (rank b)
+
+pub le-rank : (a b : ℕ) → finite a ≡ true → finite b ≡ true → le (ofBits binary64 a) (ofBits binary64 b) ≡ atMost a b
+unfolding le
+le-rank a b p q = ap (λ (x : Bool). x || eq (ofBits binary64 a) (ofBits binary64 b)) (lt-rank a b p q) ∙ ap (λ (x : Bool). below a b || x) (eq-rank a b p q) ∙ at-most-split a b
+
+-- ---- two floats that a program holds, by their own patterns
+module _ (x y : Float) (fx : T (fits binary64 x)) (fy : T (fits binary64 y)) (p : finite (toBits binary64 x) ≡ true) (q : finite (toBits binary64 y) ≡ true) where
+  through : (f : Float → Float → Bool) → f x y ≡ f (ofBits binary64 (toBits binary64 x)) (ofBits binary64 (toBits binary64 y))
+  through f = ap (λ (z : Float). f z y) (sym (ofBits-toBits binary64 x fx)) ∙ ap (λ (z : Float). f (ofBits binary64 (toBits binary64 x)) z) (sym (ofBits-toBits binary64 y fy))
+
+  pub le-float : le x y ≡ atMost (toBits binary64 x) (toBits binary64 y)
+  le-float = through le ∙ le-rank (toBits binary64 x) (toBits binary64 y) p q
+
+  pub lt-float : lt x y ≡ below (toBits binary64 x) (toBits binary64 y)
+  lt-float = through lt ∙ lt-rank (toBits binary64 x) (toBits binary64 y) p q
+
+  pub eq-float : eq x y ≡ sameValue (toBits binary64 x) (toBits binary64 y)
+  eq-float = through eq ∙ eq-rank (toBits binary64 x) (toBits binary64 y) p q
+
+-- ---- two values by any fractions a / L and b / L that they equal; h is any number that both are within
+pub le-at : (x y : Float) (s t : Bool) (a b L h : ℕ) → 0 < L → a ≤ h → b ≤ h → HasValue x s a L → HasValue y t b L → le x y ≡ leb (keyOf h s a) (keyOf h t b)
+unfolding le
+le-at x y s t a b L h PL p q v w =
+    ap (λ (z : Bool). z || eq x y) (lt-values x y s t a b L PL v w ∙ below-at h s t a b p q)
+    ∙ ap (λ (z : Bool). ltb (keyOf h s a) (keyOf h t b) || z) (eq-values x y s t a b L PL v w ∙ level-at h s t a b p q)
+    ∙ lt-or-eq (keyOf h s a) (keyOf h t b)
+
+pub lt-at : (x y : Float) (s t : Bool) (a b L h : ℕ) → 0 < L → a ≤ h → b ≤ h → HasValue x s a L → HasValue y t b L → lt x y ≡ ltb (keyOf h s a) (keyOf h t b)
+lt-at x y s t a b L h PL p q v w = lt-values x y s t a b L PL v w ∙ below-at h s t a b p q
+
+pub eq-at : (x y : Float) (s t : Bool) (a b L h : ℕ) → 0 < L → a ≤ h → b ≤ h → HasValue x s a L → HasValue y t b L → eq x y ≡ eqb (keyOf h s a) (keyOf h t b)
+eq-at x y s t a b L h PL p q v w = eq-values x y s t a b L PL v w ∙ level-at h s t a b p q

@@ -1,0 +1,3 @@
+// Boxes of coordinates: the order of finite values, by rank, and the boxes that hold vertices.
+pub mod boxes;
+pub mod rank;

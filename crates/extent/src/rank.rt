@@ -1,0 +1,29 @@
+// Finite patterns, and the floats that they are.
+ghost use mathlib.Core.Path.{_≡_};
+ghost use mathlib.Core.Bool.{true};
+ghost use lib.Ieee.{binary64, ofBits};
+ghost use Rattle.extent.specs.Rank.{finite};
+ghost use Rattle.extent.specs.Boxes.{bitsOf};
+
+// Neither an infinity nor a NaN: the exponent's field is below 2047.
+pub fn finite(b: u64) -> bool
+    ensures { λ r. ⌜ r ≡ finite b ⌝ }
+{
+    b / 4503599627370496 % 2048 < 2047
+}
+
+// The float of a finite pattern.
+pub fn float_of(b: u64) -> f64
+    requires { ⌜ finite b ≡ true ⌝ }
+    ensures { λ r. ⌜ (r ≡ ofBits binary64 b) × (bitsOf r ≡ b) ⌝ }
+{
+    f64::from_bits(b)
+}
+
+// The pattern of a finite float.
+pub fn bits_of(x: f64) -> u64
+    requires { ⌜ finite (bitsOf x) ≡ true ⌝ }
+    ensures { λ r. ⌜ r ≡ bitsOf x ⌝ }
+{
+    f64::to_bits(x)
+}
