@@ -72,6 +72,9 @@ static uint64_t same_read(const uint8_t *s, size_t len, size_t n, size_t room)
     expect(memcmp(ours, tuned_own, 8 * given) == 0, "values, ours and tuned decode");
     expect(untouched(ours + given, held - 8 * given), "the room that our read leaves");
     expect(untouched(tuned + given, held - 8 * given), "the room that the tuned read leaves");
+    uint64_t sum = measure_steps(s, len, n);
+    expect(sum == plain_steps(s, len, n), "sums of the values one by one, ours and plain");
+    expect(sum == tuned_steps(s, len, n), "sums of the values one by one, ours and tuned");
     return no;
 }
 

@@ -29,4 +29,8 @@ read_call measure_decode, tuned_decode;
 /* Writes: each leaves the room as it was when it refuses. */
 write_call measure_write, plain_write, tuned_write;
 
+/* One value a call, from a fresh position until an answer gives none: the sum of the values, wrapped at 64 bits. */
+typedef uint64_t steps_call(const uint8_t *s, size_t len, size_t n);
+steps_call measure_steps, plain_steps, tuned_steps;
+
 #endif

@@ -15,9 +15,10 @@ static const double PASS = 50e3, MADE_TIME = 120e6, REAL_TIME = 2000e6;
 enum { WRITE_ROUNDS = 16 };
 
 /* What is timed: each call over all columns of a set, and a copy of as many values for comparison. */
-enum { READ, PLAIN_READ, TUNED_READ, DECODE, TUNED_DECODE, WRITE, PLAIN_WRITE, TUNED_WRITE, COPY, CALLS };
+enum { READ, PLAIN_READ, TUNED_READ, DECODE, TUNED_DECODE, STEPS, PLAIN_STEPS, TUNED_STEPS, WRITE, PLAIN_WRITE, TUNED_WRITE, COPY, CALLS };
 
 static read_call *const reads[CALLS] = {measure_read, plain_read, tuned_read, measure_decode, tuned_decode};
+static steps_call *const runs[CALLS] = {[STEPS] = measure_steps, [PLAIN_STEPS] = plain_steps, [TUNED_STEPS] = tuned_steps};
 static write_call *const writes[CALLS] = {[WRITE] = measure_write, [PLAIN_WRITE] = plain_write, [TUNED_WRITE] = tuned_write};
 
 /* Nanoseconds for each value, by call. */
@@ -42,6 +43,9 @@ static void once(unsigned call, const struct column *c)
         __asm__ volatile("" ::"r"(values) : "memory");
     } else if (reads[call] != NULL) {
         reads[call](c->bytes, c->len, c->n, values, MOST);
+    } else if (runs[call] != NULL) {
+        uint64_t sum = runs[call](c->bytes, c->len, c->n);
+        __asm__ volatile("" ::"r"(sum));
     } else {
         writes[call](c->vs, c->n, bytes, sizeof bytes);
     }
@@ -85,17 +89,18 @@ static struct times timed(const struct set *set, double budget)
 
 static void heading(const char *what)
 {
-    printf("\n%s\n%-30s %6s | %-32s | %-25s | %-34s | %s\n", what, "", "", "read", "decode into scratch", "write", "copy");
-    printf("%-30s %6s | %5s %5s %5s %7s %6s | %5s %5s %6s %6s | %6s %6s %5s %7s %6s | %5s\n", "", "values", "ours", "plain", "tuned", "/plain", "/tuned",
-           "ours", "tuned", "/plain", "/tuned", "ours", "plain", "tuned", "/plain", "/tuned", "");
+    printf("\n%s\n%-30s %6s | %-32s | %-25s | %-32s | %-34s | %s\n", what, "", "", "read", "decode into scratch", "one value a call", "write", "copy");
+    printf("%-30s %6s | %5s %5s %5s %7s %6s | %5s %5s %6s %6s | %5s %5s %5s %7s %6s | %6s %6s %5s %7s %6s | %5s\n", "", "values", "ours", "plain", "tuned", "/plain", "/tuned",
+           "ours", "tuned", "/plain", "/tuned", "ours", "plain", "tuned", "/plain", "/tuned", "ours", "plain", "tuned", "/plain", "/tuned", "");
 }
 
 static void row(const struct set *set, const struct times *times)
 {
     const double *t = times->best;
-    printf("%-30s %6zu | %5.2f %5.2f %5.2f %7.2f %6.2f | %5.2f %5.2f %6.2f %6.2f | %6.1f %6.1f %5.2f %7.2f %6.1f | %5.2f\n", set->name, set->values,
+    printf("%-30s %6zu | %5.2f %5.2f %5.2f %7.2f %6.2f | %5.2f %5.2f %6.2f %6.2f | %5.2f %5.2f %5.2f %7.2f %6.2f | %6.1f %6.1f %5.2f %7.2f %6.1f | %5.2f\n", set->name, set->values,
            t[READ], t[PLAIN_READ], t[TUNED_READ], t[READ] / t[PLAIN_READ], t[READ] / t[TUNED_READ], t[DECODE], t[TUNED_DECODE],
-           t[DECODE] / t[PLAIN_READ], t[DECODE] / t[TUNED_DECODE], t[WRITE], t[PLAIN_WRITE], t[TUNED_WRITE], t[WRITE] / t[PLAIN_WRITE],
+           t[DECODE] / t[PLAIN_READ], t[DECODE] / t[TUNED_DECODE], t[STEPS], t[PLAIN_STEPS],
+           t[TUNED_STEPS], t[STEPS] / t[PLAIN_STEPS], t[STEPS] / t[TUNED_STEPS], t[WRITE], t[PLAIN_WRITE], t[TUNED_WRITE], t[WRITE] / t[PLAIN_WRITE],
            t[WRITE] / t[TUNED_WRITE], t[COPY]);
     fflush(stdout);
 }
