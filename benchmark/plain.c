@@ -101,39 +101,9 @@ uint64_t plain_write(const uint64_t *vs, size_t n, uint8_t *out, size_t room)
     return bytes;
 }
 
-/* One value after some were given, or the end, or a refusal; any position is taken. */
-static struct answer next_step(const uint8_t *s, size_t len, size_t n, struct position p)
-{
-    if (n > MOST)
-        return no_value(p, MANY);
-    if (p.given == 0)
-        return first_step(s, len, n, p);
-    size_t end = 8 * len;
-    if (p.width > 64)
-        return no_value(p, WIDTH);
-    if (p.at > end)
-        return no_value(p, BITS);
-    if (p.given >= n)
-        return no_value(p, ended(s, len, p.at));
-    if (end - p.at < p.width)
-        return no_value(p, BITS);
-    uint64_t m = marker((unsigned)p.width), z = window(s, len, p.at) & m;
-    p.at += p.width;
-    if (z < m) {
-        p.last += unzigzag(z);
-    } else {
-        if (end - p.at < 64) {
-            p.at -= p.width;
-            return no_value(p, BITS);
-        }
-        p.last = window(s, len, p.at);
-        p.at += 64;
-    }
-    p.given++;
-    return (struct answer){VALUE, 0, p.last, p};
-}
+#include "steps.h"
 
 uint64_t plain_steps(const uint8_t *s, size_t len, size_t n)
 {
-    RUN(next_step);
+    return sum_of_steps(s, len, n);
 }

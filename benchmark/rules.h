@@ -65,48 +65,4 @@ static inline unsigned ended(const uint8_t *s, size_t len, size_t at)
     return at < 8 * len && s[at / 8] >> at % 8 != 0 ? FILL : 0;
 }
 
-/* Where a reader of one value a call stands: the place of the next entry, how many values were given, the width, and the last value. */
-struct position {
-    size_t at, given;
-    uint64_t width, last;
-};
-
-/* What a call gives: a value with the next position, or, with the position as it came, the end or a refusal. */
-struct answer {
-    enum { VALUE, END, NO } kind;
-    unsigned number;
-    uint64_t value;
-    struct position next;
-};
-
-static inline struct answer no_value(struct position p, unsigned number)
-{
-    return (struct answer){number == 0 ? END : NO, number, 0, p};
-}
-
-/* The first value, with none given. */
-static inline struct answer first_step(const uint8_t *s, size_t len, size_t n, struct position p)
-{
-    unsigned no = judged(s, len, n, n);
-    if (no != 0 || n == 0)
-        return no_value(p, no);
-    uint64_t v = load(s + 1);
-    return (struct answer){VALUE, 0, v, {ENTRIES, 1, s[0], v}};
-}
-
-/* The run of calls of one kind. */
-#define RUN(next_of)                                                                                                                             \
-    do {                                                                                                                                         \
-        struct position p = {0, 0, 0, 0};                                                                                                        \
-        uint64_t sum = 0;                                                                                                                        \
-        for (size_t calls = 0; calls <= n; calls++) {                                                                                            \
-            struct answer a = next_of(s, len, n, p);                                                                                             \
-            if (a.kind != VALUE)                                                                                                                 \
-                break;                                                                                                                           \
-            sum += a.value;                                                                                                                      \
-            p = a.next;                                                                                                                          \
-        }                                                                                                                                        \
-        return sum;                                                                                                                              \
-    } while (0)
-
 #endif

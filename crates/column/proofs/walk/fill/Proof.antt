@@ -1,12 +1,12 @@
--- `column::read::fill` gives all the values and the place where they end: the first one, then two walks. Assumes nothing.
+-- `column::walk::fill` gives all the values and the place where they end: the first one, then two walks. Assumes nothing.
 use mathlib.Core.Path.{sym, ap, _∙_}
 use native.Mathlib.Omega.{arith}
 use lib.ListN.{length-set}
 use Rattle.entry.specs.Step.{marker}
 use Rattle.column.proofs.Filling.{filled-all}
 use borrow.Author.Needs.{needs}
-use Rattle.column.proofs.read.fill.Statement.{statement}
-use Rattle.column.proofs.read.fill.Tie as tie
+use Rattle.column.proofs.walk.fill.Statement.{statement}
+use Rattle.column.proofs.walk.fill.Tie as tie
 
 marker-requires : tie.Need-marker-requires
 marker-requires c κs = search needs

@@ -1,4 +1,4 @@
--- `column::read::fill_sure` gives values up to a number, all of whose entries lie inside the bytes. The invariant: the walk went from where it
+-- `column::walk::fill_sure` gives values up to a number, all of whose entries lie inside the bytes. The invariant: the walk went from where it
 -- began to here; an entry takes at most 128 bits, so the place is where it was said to be at most. Assumes nothing.
 use Prim.Native.Nat.{_-_, _≤_}
 use native.Mathlib.Omega.{arith}
@@ -6,8 +6,8 @@ use borrow.Author.Needs.{needs}
 use Rattle.le.specs.Number.{number}
 use Rattle.column.specs.Filling.{Went}
 use Rattle.column.proofs.Filling.{position, went-none, went-more}
-use Rattle.column.proofs.read.fill_sure.Statement.{statement}
-use Rattle.column.proofs.read.fill_sure.Tie as tie
+use Rattle.column.proofs.walk.fill_sure.Statement.{statement}
+use Rattle.column.proofs.walk.fill_sure.Tie as tie
 
 abbrev Inv-loop : tie.InvT-loop
 Inv-loop s n stop m out₀ w at₀ last₀ i₀ out at last i = (i ≤ stop) × Went 64 (number s) n (position at₀ i₀ w last₀) out₀ (position at i w last) out

@@ -1,4 +1,4 @@
--- `column::read::fill_inside` gives values as long as some entries are sure to lie inside the bytes. The invariant: the walk went from where it
+-- `column::walk::fill_inside` gives values as long as some entries are sure to lie inside the bytes. The invariant: the walk went from where it
 -- began to here, and what is sure is sure. Assumes nothing.
 use Prim.Native.Nat.{_+_, _-_, _*_, _≤_, _<_}
 use native.Mathlib.Omega.{arith}
@@ -6,8 +6,8 @@ use borrow.Author.Needs.{needs}
 use Rattle.le.specs.Number.{number}
 use Rattle.column.specs.Filling.{Went}
 use Rattle.column.proofs.Filling.{position, went-none, went-again}
-use Rattle.column.proofs.read.fill_inside.Statement.{statement}
-use Rattle.column.proofs.read.fill_inside.Tie as tie
+use Rattle.column.proofs.walk.fill_inside.Statement.{statement}
+use Rattle.column.proofs.walk.fill_inside.Tie as tie
 
 abbrev Inv-loop : tie.InvT-loop
 Inv-loop s n m out₀ bits w at₀ last₀ i₀ stop₀ out at last i stop = (Went 64 (number s) n (position at₀ i₀ w last₀) out₀ (position at i w last) out) × (i ≤ stop) × (stop ≤ n) × (i < stop → at + 128 * (stop - i) < bits)

@@ -1,4 +1,4 @@
--- `column::read::fill_rest` gives the rest of the values. The invariant: the walk went from where it began to here. Assumes nothing.
+-- `column::walk::fill_rest` gives the rest of the values. The invariant: the walk went from where it began to here. Assumes nothing.
 use Prim.Native.Nat.{_-_}
 use native.Mathlib.Omega.{arith}
 use borrow.Author.Needs.{needs}
@@ -6,8 +6,8 @@ use Rattle.le.specs.Number.{number}
 use Rattle.entry.proofs.Reading.{size-le}
 use Rattle.column.specs.Filling.{Went}
 use Rattle.column.proofs.Filling.{position, went-none, went-more}
-use Rattle.column.proofs.read.fill_rest.Statement.{statement}
-use Rattle.column.proofs.read.fill_rest.Tie as tie
+use Rattle.column.proofs.walk.fill_rest.Statement.{statement}
+use Rattle.column.proofs.walk.fill_rest.Tie as tie
 
 abbrev Inv-loop : tie.InvT-loop
 Inv-loop s n m out₀ w at₀ last₀ i₀ out at last i = Went 64 (number s) n (position at₀ i₀ w last₀) out₀ (position at i w last) out
