@@ -1,7 +1,6 @@
 // The column read one value a call. The position goes in by value and comes back with each answer; only a value moves it.
 ghost use mathlib.Core.Path.{_≡_};
-ghost use Prim.Native.Nat.{_+_, _*_, _/_, _^_, _≤_, _<_};
-ghost use lib.ListN.{length};
+ghost use Prim.Native.Nat.{_+_, _/_, _^_, _≤_};
 ghost use lib.Dec.{leb};
 ghost use Rattle.answer.specs.Refusal.{because};
 ghost use Rattle.answer.specs.Outcome.{ok};
@@ -9,10 +8,9 @@ ghost use Rattle.le.specs.Number.{number};
 ghost use Rattle.entry.specs.Step.{marker};
 ghost use Rattle.entry.specs.Entry.{sizeAt};
 ghost use Rattle.column.specs.Read.{closed};
-ghost use Rattle.reader.specs.Next.{position, end, firstOf, laterOf, nextOf, answered};
+ghost use Rattle.reader.specs.Next.{end, firstOf, laterOf, nextOf, answered};
 use answer::Refusal;
 use column::Position;
-use entry::Given;
 
 // A value with the next position; or the end, or a refusal, with the position as it came.
 pub enum Answer {
@@ -94,57 +92,14 @@ fn runs_over(s: &[u8], at: usize, w: u64, m: u64) -> bool
     }
 }
 
-// What an entry gives, with the position after it.
-fn gives(e: Given, p: Position) -> Answer
-    requires { ⌜ p .given < 2048 ⌝ }
-    ensures { λ r. ⌜ r ≡ Answer.Value (e .value) (position (e .next) (p .given + 1) (p .width) (e .value)) ⌝ }
-{
-    Answer::Value(
-        e.value,
-        Position {
-            at: e.next,
-            given: p.given + 1,
-            width: p.width,
-            last: e.value,
-        },
-    )
-}
-
-// The value of the entry at the position's place, where 17 bytes stand from it on: no test for the end.
-fn value_inside(s: &[u8], n: usize, p: Position) -> Answer
-    requires { ⌜ (n ≤ 2048) × (p .width ≤ 64) × (p .given < n) × (p .at < 2 ^ 62) × (p .at / 8 + 17 ≤ length (now s)) ⌝ }
-    ensures { λ r. ⌜ r ≡ answered p (laterOf 64 (now (s .entry)) n p) ⌝ }
-{
-    let w = p.width;
-    gives(entry::entry_inside(s, p.at, w, entry::marker(w), p.last), p)
-}
-
-// The value of the entry at the position's place, or 9 where it ends past the bytes.
-fn value_near(s: &[u8], n: usize, p: Position) -> Answer
-    requires { ⌜ (n ≤ 2048) × (p .width ≤ 64) × (p .given < n) × (p .at ≤ 8 * length (now s)) ⌝ }
-    ensures { λ r. ⌜ r ≡ answered p (laterOf 64 (now (s .entry)) n p) ⌝ }
-{
-    let at = p.at;
-    let w = p.width;
-    let m = entry::marker(w);
-    if runs_over(s, at, w, m) {
-        return refused(answer::table::BITS, p);
-    }
-    let e = entry::entry_at(s, at, w, m, p.last);
-    let next = e.next;
-    if s.len() < whole_bytes(next) {
-        return refused(answer::table::BITS, p);
-    }
-    gives(e, p)
-}
-
 // With some given: the entry at the position's place, or the rules of the end.
 fn later(s: &[u8], n: usize, p: Position) -> Answer
     requires { ⌜ n ≤ 2048 ⌝ }
     ensures { λ r. ⌜ r ≡ answered p (laterOf 64 (now (s .entry)) n p) ⌝ }
 {
     let at = p.at;
-    if 64 < p.width {
+    let w = p.width;
+    if 64 < w {
         return refused(answer::table::WIDTH, p);
     }
     let len = s.len();
@@ -154,13 +109,24 @@ fn later(s: &[u8], n: usize, p: Position) -> Answer
     if n <= p.given {
         return end_at(s, at, p);
     }
-    if len < 17 {
-        return value_near(s, n, p);
+    let m = entry::marker(w);
+    if runs_over(s, at, w, m) {
+        return refused(answer::table::BITS, p);
     }
-    if at < 0x1000_0000_0000 && at / 8 <= len - 17 {
-        return value_inside(s, n, p);
+    let e = entry::entry_at(s, at, w, m, p.last);
+    let next = e.next;
+    if len < whole_bytes(next) {
+        return refused(answer::table::BITS, p);
     }
-    value_near(s, n, p)
+    Answer::Value(
+        e.value,
+        Position {
+            at: next,
+            given: p.given + 1,
+            width: w,
+            last: e.value,
+        },
+    )
 }
 
 // One value of the column s of n values, or the end, or a refusal. Any position is taken.
