@@ -78,17 +78,9 @@ static size_t put(uint8_t *out, size_t at, unsigned w, uint64_t x)
     return at;
 }
 
-uint64_t plain_write(const uint64_t *vs, size_t n, uint8_t *out, size_t room)
+/* Puts the column of at least one value at width w into a room of exactly its bytes. */
+static void put_column(const uint64_t *vs, size_t n, unsigned w, uint8_t *out, size_t bytes)
 {
-    if (n > MOST)
-        return REFUSED(MANY);
-    if (n == 0)
-        return 0;
-    uint64_t size;
-    unsigned w = best_width(vs, n, &size);
-    size_t bytes = (ENTRIES + size + 7) / 8;
-    if (room < bytes)
-        return REFUSED(ROOM);
     memset(out, 0, bytes);
     uint64_t m = marker(w);
     size_t at = put(out, put(out, 0, 8, w), 64, vs[0]);
@@ -98,7 +90,13 @@ uint64_t plain_write(const uint64_t *vs, size_t n, uint8_t *out, size_t room)
         if (z >= m)
             at = put(out, at, 64, vs[i]);
     }
-    return bytes;
+}
+
+#include "writes.h"
+
+uint64_t plain_write(const uint64_t *vs, size_t n, uint8_t *out, size_t room)
+{
+    return write_column(vs, n, out, room);
 }
 
 #include "steps.h"

@@ -194,22 +194,21 @@ static void put(const uint64_t *vs, size_t n, unsigned w, uint8_t *out)
     finish(o);
 }
 
-uint64_t tuned_write(const uint64_t *vs, size_t n, uint8_t *out, size_t room)
+/* Puts the column of at least one value at width w; where every value stands in full it is a copy. */
+static void put_column(const uint64_t *vs, size_t n, unsigned w, uint8_t *out, size_t bytes)
 {
-    if (n > MOST)
-        return REFUSED(MANY);
-    if (n == 0)
-        return 0;
-    uint64_t size;
-    unsigned w = best_width(vs, n, &size);
-    size_t bytes = (ENTRIES + size + 7) / 8;
-    if (room < bytes)
-        return REFUSED(ROOM);
+    (void)bytes;
     if (w == 0)
         put_full(vs, n, out);
     else
         put(vs, n, w, out);
-    return bytes;
+}
+
+#include "writes.h"
+
+uint64_t tuned_write(const uint64_t *vs, size_t n, uint8_t *out, size_t room)
+{
+    return write_column(vs, n, out, room);
 }
 
 #include "steps.h"

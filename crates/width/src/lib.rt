@@ -13,11 +13,11 @@ pub struct Choice {
     pub size: u64,
 }
 
-// 1 for a step that is stored in full, 0 for another; m is the marker.
+// 0 for a step that is below the marker m, 1 for one that is stored in full.
 fn full(z: u64, m: u64) -> u64
     ensures { λ r. ⌜ r ≡ pick (leb m z) 1 0 ⌝ }
 {
-    if m <= z { 1 } else { 0 }
+    if z < m { 0 } else { 1 }
 }
 
 // How many steps are stored in full where m is the marker.
