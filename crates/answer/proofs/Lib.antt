@@ -1,2 +1,3 @@
 pub mod Outcomes
 pub mod Determined
+pub mod Rules

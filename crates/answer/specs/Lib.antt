@@ -1,3 +1,4 @@
 pub mod Table
 pub mod Refusal
 pub mod Outcome
+pub mod Rule

@@ -1,6 +1,7 @@
 // What every service answers. A refusal is one value, a number of the table and a page, and is passed on whole; its page is set here alone.
 ghost use mathlib.Core.Path.{_≡_};
 ghost use Rattle.answer.specs.Refusal.{because, onPage};
+ghost use Rattle.answer.specs.Rule.{rule, judged};
 
 pub mod table;
 
@@ -13,6 +14,12 @@ pub struct Refusal {
 // The answer of a call that fills the start of a lent room: how many elements it put there, or the refusal, which leaves the room as it was.
 pub enum Filled {
     Start(usize),
+    Refused(Refusal),
+}
+
+// The answer of a rule: it holds, or the refusal.
+pub enum Verdict {
+    Holds,
     Refused(Refusal),
 }
 
@@ -32,5 +39,17 @@ impl Refusal {
             number: self.number,
             page,
         }
+    }
+}
+
+impl Verdict {
+    // The verdict of a rule that a test decides, refused by its number.
+    pub fn of(holds: bool, number: u8) -> Verdict
+        ensures { λ r. ⌜ judged r ≡ rule holds number ⌝ }
+    {
+        if holds {
+            return Verdict::Holds;
+        }
+        Verdict::Refused(Refusal::because(number))
     }
 }

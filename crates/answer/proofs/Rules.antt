@@ -1,0 +1,43 @@
+-- Laws of rules and verdicts. Assumes nothing.
+use Prim.Native.Nat.{ℕ}
+use mathlib.Core.Path.{_≡_, refl, sym, ap}
+use mathlib.Core.Bool.{Bool, true, false}
+use Rattle.answer.specs.declared.Refusal.{Refusal}
+use Rattle.answer.specs.declared.Verdict.{Verdict}
+use Rattle.answer.specs.declared.Verdict.the-variants.{Holds, Refused}
+use Rattle.answer.specs.Refusal.{because}
+use Rattle.answer.specs.Outcome.{Out, refused, ok, need}
+use Rattle.answer.specs.Rule.{rule, judged}
+use Rattle.answer.proofs.Outcomes.{never, refused-inj, met, unmet}
+
+-- a test that holds, and one that does not
+pub rule-holds : (t : Bool) (n : ℕ) → t ≡ true → rule t n ≡ ok tt
+unfolding rule
+rule-holds t n e = met (because n) (ok tt) e
+
+pub rule-fails : (t : Bool) (n : ℕ) → t ≡ false → rule t n ≡ refused (because n)
+unfolding rule
+rule-fails t n e = unmet (because n) (ok tt) e
+
+-- where a rule lets pass, its test holds
+pub rule-ok : (t : Bool) (n : ℕ) (u : Unit {0}) → rule t n ≡ ok u → t ≡ true
+unfolding rule need
+rule-ok true n u e = refl
+rule-ok false n u e = absurd (never e)
+
+-- what the two verdicts say
+pub judged-holds : judged Holds ≡ ok tt
+unfolding judged
+judged-holds = refl
+
+pub judged-refused : (w : Refusal) → judged (Refused w) ≡ refused w
+unfolding judged
+judged-refused w = refl
+
+-- a verdict is determined by what it says
+pub judged-one : (a b : Verdict) → judged a ≡ judged b → a ≡ b
+unfolding judged
+judged-one Holds Holds e = refl
+judged-one Holds (Refused w) e = absurd (never (sym e))
+judged-one (Refused w) Holds e = absurd (never e)
+judged-one (Refused w) (Refused x) e = ap Refused (refused-inj e)
