@@ -6,3 +6,5 @@ pub mod Puts
 pub mod PutWays
 pub mod BitOrder
 pub mod Blocks
+pub mod Copying
+pub mod Runs

@@ -18,6 +18,11 @@ bytesOf (suc k) x = x % 256 ∷ bytesOf k (x / 256)
 unfoldable pub numberAt : ℕ → List ℕ → ℕ → ℕ
 numberAt k s at = number (take k (drop at s))
 
+-- n numbers of k bytes each, one after the other from place at on
+unfoldable pub numbersAt : ℕ → ℕ → List ℕ → ℕ → List ℕ
+numbersAt k zero s at = []
+numbersAt k (suc n) s at = numberAt k s at ∷ numbersAt k n s (at + k)
+
 -- the field of w bits from bit place k on of a number, low bit first; a number has zero bits without end
 abbrev pub field : ℕ → ℕ → ℕ → ℕ
 field b k w = b / 2 ^ k % 2 ^ w

@@ -2,3 +2,4 @@
 pub mod bits;
 pub mod block;
 pub mod number;
+pub mod run;
