@@ -1,11 +1,15 @@
 -- Laws of runs of numbers of k bytes each. Assumes nothing.
 use Prim.Native.Nat.{ℕ, zero, suc, _+_, _*_, _^_, _≤_, _<_}
 use mathlib.Core.Path.{_≡_, refl, sym, ap, ap₂, _∙_}
-use mathlib.Core.List.{List, [], _∷_, _++_, append-nil}
+use mathlib.Core.List.{List, [], _∷_, _++_, append-nil, append-assoc}
+use native.Mathlib.Nat.{mod-eq-of-lt}
+use native.Mathlib.Numerals.{add-one}
 use native.Mathlib.Omega.{arith}
-use lib.ListN.{length, getD, take, drop}
-use lib.Seq.{take-all, drop-length}
-use Rattle.le.specs.Number.{numberAt, numbersAt}
+use lib.ListN.{length, length-append, getD, set, take, drop}
+use lib.Seq.{take-all, drop-length, take-suc, length-take-le, sets}
+use Rattle.le.proofs.Bytes.{length-bytesOf, number-at-append, number-at-bytesOf}
+use Rattle.le.proofs.Stores.{sets-append}
+use Rattle.le.specs.Number.{number, bytesOf, numberAt, numbersAt, runOf}
 
 pub length-numbers : (k n : ℕ) (s : List ℕ) (at : ℕ) → length (numbersAt k n s at) ≡ n
 unfolding numbersAt
@@ -28,3 +32,64 @@ run-whole k n s at i d e l =
     (take-all i (numbersAt k n s at) (omega (arith, length-numbers k n s at)))
     (ap (λ (j : ℕ). drop j d) f ∙ drop-length d)
     ∙ append-nil (numbersAt k n s at)
+
+-- ---- a run that is put
+
+pub length-run : (k : ℕ) (xs : List ℕ) → length (runOf k xs) ≡ k * length xs
+unfolding runOf
+length-run k [] = omega arith
+length-run k (x ∷ xs) = length-append (bytesOf k x) (runOf k xs) ∙ omega (arith, length-bytesOf k x, length-run k xs)
+
+pub run-append : (k : ℕ) (xs ys : List ℕ) → runOf k (xs ++ ys) ≡ runOf k xs ++ runOf k ys
+unfolding runOf
+run-append k [] ys = refl
+run-append k (x ∷ xs) ys = ap (λ (l : List ℕ). bytesOf k x ++ l) (run-append k xs ys) ∙ sym (append-assoc (bytesOf k x) (runOf k xs) (runOf k ys))
+
+run-one : (k x : ℕ) → runOf k (x ∷ []) ≡ bytesOf k x
+unfolding runOf
+run-one k x = append-nil (bytesOf k x)
+
+-- none put
+pub run-none : (k : ℕ) (xs : List ℕ) → runOf k (take 0 xs) ≡ []
+unfolding runOf
+run-none k xs = refl
+
+-- number i put behind those before it
+pub run-more : (k : ℕ) (xs d t u : List ℕ) (at i : ℕ) → i < length xs → t ≡ sets d at (runOf k (take i xs))
+    → u ≡ sets t (at + k * i) (bytesOf k (getD xs i 0)) → u ≡ sets d at (runOf k (take (i + 1) xs))
+run-more k xs d t u at i h e f =
+    let a = runOf k (take i xs) in
+    let n : at + k * i ≡ at + length a = omega (arith, length-run k (take i xs), ap (λ (j : ℕ). k * j) (length-take-le i xs (omega arith))) in
+    let g : runOf k (take i xs ++ getD xs i 0 ∷ []) ≡ a ++ bytesOf k (getD xs i 0) = run-append k (take i xs) (getD xs i 0 ∷ []) ∙ ap (λ (l : List ℕ). a ++ l) (run-one k (getD xs i 0)) in
+    f
+    ∙ ap₂ (λ (l : List ℕ) (j : ℕ). sets l j (bytesOf k (getD xs i 0))) e n
+    ∙ sym (sets-append a (bytesOf k (getD xs i 0)) d at)
+    ∙ ap (sets d at) (sym g ∙ ap (runOf k) (sym (take-suc xs i 0 h) ∙ ap (λ (j : ℕ). take j xs) (sym (add-one i))))
+
+-- byte i put behind those before it
+pub bytes-more : (xs d t : List ℕ) (at i : ℕ) → i < length xs → t ≡ sets d at (take i xs) → set t (at + i) (getD xs i 0) ≡ sets d at (take (i + 1) xs)
+bytes-more xs d t at i h e =
+    let n : at + i ≡ at + length (take i xs) = omega (arith, length-take-le i xs (omega arith)) in
+    ap₂ (λ (l : List ℕ) (j : ℕ). set l j (getD xs i 0)) e n
+    ∙ sym (sets-append (take i xs) (getD xs i 0 ∷ []) d at)
+    ∙ ap (sets d at) (sym (take-suc xs i 0 h) ∙ ap (λ (j : ℕ). take j xs) (sym (add-one i)))
+
+-- a run behind other bytes
+pub numbers-append : (k n : ℕ) (a s : List ℕ) (at : ℕ) → numbersAt k n (a ++ s) (length a + at) ≡ numbersAt k n s at
+unfolding numbersAt
+numbers-append k zero a s at = refl
+numbers-append k (suc n) a s at =
+    let e : length a + at + k ≡ length a + (at + k) = omega arith in
+    ap₂ _∷_ (number-at-append k a s at) (ap (numbersAt k n (a ++ s)) e ∙ numbers-append k n a s (at + k))
+
+-- a run that was put reads back, where each number fits
+pub numbers-run : (k : ℕ) (xs r : List ℕ) → ((i : ℕ) → getD xs i 0 < 2 ^ (8 * k)) → numbersAt k (length xs) (runOf k xs ++ r) 0 ≡ xs
+unfolding numbersAt runOf
+numbers-run k [] r h = refl
+numbers-run k (x ∷ xs) r h =
+    let e : 0 + k ≡ length (bytesOf k x) + 0 = omega (arith, length-bytesOf k x) in
+    let t = runOf k xs ++ r in
+    ap (λ (l : List ℕ). numbersAt k (suc (length xs)) l 0) (append-assoc (bytesOf k x) (runOf k xs) r)
+    ∙ ap₂ _∷_
+    (number-at-bytesOf k x t ∙ mod-eq-of-lt (h 0))
+    (ap (numbersAt k (length xs) (bytesOf k x ++ t)) e ∙ numbers-append k (length xs) (bytesOf k x) t 0 ∙ numbers-run k xs r (λ i. h (suc i)))

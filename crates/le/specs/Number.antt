@@ -1,7 +1,7 @@
 -- The number that bytes are, and the fields of its bits. All numbers are little-endian; bit k of a run of bytes is bit k mod 8 of byte k / 8,
 -- lowest first. So the bytes are one number, whose bit k that is. Assumes nothing.
 use Prim.Native.Nat.{ℕ, zero, suc, _+_, _*_, _/_, _%_, _^_}
-use mathlib.Core.List.{List, [], _∷_}
+use mathlib.Core.List.{List, [], _∷_, _++_}
 use lib.ListN.{take, drop}
 
 -- the number that bytes are, the first lowest
@@ -22,6 +22,11 @@ numberAt k s at = number (take k (drop at s))
 unfoldable pub numbersAt : ℕ → ℕ → List ℕ → ℕ → List ℕ
 numbersAt k zero s at = []
 numbersAt k (suc n) s at = numberAt k s at ∷ numbersAt k n s (at + k)
+
+-- numbers as bytes, k bytes each, one after the other
+unfoldable pub runOf : ℕ → List ℕ → List ℕ
+runOf k [] = []
+runOf k (x ∷ xs) = bytesOf k x ++ runOf k xs
 
 -- the field of w bits from bit place k on of a number, low bit first; a number has zero bits without end
 abbrev pub field : ℕ → ℕ → ℕ → ℕ

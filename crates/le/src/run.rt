@@ -2,7 +2,10 @@
 ghost use mathlib.Core.Path.{_≡_};
 ghost use Prim.Native.Nat.{_+_, _*_, _≤_};
 ghost use lib.ListN.{length};
-ghost use Rattle.le.specs.Number.{numbersAt};
+ghost use lib.Seq.{sets};
+ghost use Rattle.le.specs.Number.{numbersAt, runOf};
+use crate::number::put_u16;
+use crate::number::put_u32;
 use crate::number::u16_at;
 
 // Fills d with numbers of two bytes each, from place at on.
@@ -14,6 +17,45 @@ pub fn read_u16s(s: &[u8], at: usize, d: &mut [u16])
     let mut i: usize = 0;
     while i < n {
         d[i] = u16_at(s, at + 2 * i) as u16;
+        i += 1;
+    }
+}
+
+// Puts the numbers xs, two bytes each, from place at on; the rest stays.
+pub fn put_u16s(d: &mut [u8], at: usize, xs: &[u16])
+    requires { ⌜ at + 2 * length (now xs) ≤ length (now d) ⌝ }
+    ensures { λ r. ⌜ now (d .exit) ≡ sets (now (d .entry)) at (runOf 2 (now (xs .entry))) ⌝ }
+{
+    let n = xs.len();
+    let mut i: usize = 0;
+    while i < n {
+        put_u16(d, at + 2 * i, xs[i] as u64);
+        i += 1;
+    }
+}
+
+// Puts the numbers xs, four bytes each, from place at on; the rest stays.
+pub fn put_u32s(d: &mut [u8], at: usize, xs: &[u32])
+    requires { ⌜ at + 4 * length (now xs) ≤ length (now d) ⌝ }
+    ensures { λ r. ⌜ now (d .exit) ≡ sets (now (d .entry)) at (runOf 4 (now (xs .entry))) ⌝ }
+{
+    let n = xs.len();
+    let mut i: usize = 0;
+    while i < n {
+        put_u32(d, at + 4 * i, xs[i] as u64);
+        i += 1;
+    }
+}
+
+// Puts the bytes xs from place at on; the rest stays.
+pub fn put_bytes(d: &mut [u8], at: usize, xs: &[u8])
+    requires { ⌜ at + length (now xs) ≤ length (now d) ⌝ }
+    ensures { λ r. ⌜ now (d .exit) ≡ sets (now (d .entry)) at (now (xs .entry)) ⌝ }
+{
+    let n = xs.len();
+    let mut i: usize = 0;
+    while i < n {
+        d[at + i] = xs[i];
         i += 1;
     }
 }

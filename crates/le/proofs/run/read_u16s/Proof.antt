@@ -23,7 +23,7 @@ loop-holds : tie.Need-loop-holds Inv-loop μ-loop
 loop-holds c = (omega arith, refl, refl)
 
 mul-u16-at : tie.Need-mul-u16-at Inv-loop μ-loop
-mul-u16-at c = 
+mul-u16-at c =
     let l = c .before .loop in
     omega (arith, c .before .before .before .before .pre)
 
@@ -49,7 +49,7 @@ loop-less : tie.Need-loop-less Inv-loop μ-loop
 loop-less c = omega arith
 
 loop-again : tie.Need-loop-again Inv-loop μ-loop
-loop-again c = 
+loop-again c =
     let l = c .before .before .loop in
     let st = c .before .before .before .before .before in
     let src = numbersAt 2 (length (st .args .d .now)) (st .args .s .now) (st .args .at) in
@@ -64,7 +64,7 @@ same-length : tie.Need-same-length Inv-loop μ-loop
 same-length c = c .before .loop .inv .1
 
 returns : tie.Need-returns Inv-loop μ-loop
-returns c = 
+returns c =
     let l = c .before .loop in
     let st = c .before .before .before .before in
     l .inv .2 ∙ run-whole 2 (length (st .args .d .now)) (st .args .s .now) (st .args .at) (l .i) (st .args .d .now) (omega arith) (omega arith)
