@@ -11,7 +11,7 @@ use Rattle.extent.specs.Boxes.{Bounds, FiniteBox, inOrder, goodForm, Hol
 use Rattle.extent.proofs.Tests.{both}
 use Rattle.extent.proofs.Ranks.{at-most-trans}
 use Rattle.extent.proofs.Finite.{all-finite-at, four-finite}
-use Rattle.extent.proofs.Firsts.{Met, AtMost, Below, AtLeast, Above, least-met, greatest-met, met-part}
+use Rattle.extent.proofs.Firsts.{Met, AtMost, Below, AtLeast, Above, least-met, greatest-met, least-unique, greatest-unique, met-part}
 use Rattle.extent.proofs.Forms.{order-good}
 
 -- each of the four is the first met of its least or greatest
@@ -26,6 +26,18 @@ unfolding boxOf
 box-met [] ys h k = absurd (omega arith)
 box-met (x ∷ xs) [] h k = absurd (omega arith)
 box-met (x ∷ xs) (y ∷ ys) h k = record { least-x = least-met x xs; least-y = least-met y ys; greatest-x = greatest-met x xs; greatest-y = greatest-met y ys }
+
+-- the rule fixes the four patterns: a box of which each is met so is the one that the definition gives
+pub boxed-unique : (xs ys : List ℕ) (p q : Bounds) → Boxed xs ys p → Boxed xs ys q → p ≡ q
+boxed-unique xs ys p q b c i = record {
+  least-x = least-unique xs (p .least-x) (q .least-x) (b .least-x) (c .least-x) i;
+  least-y = least-unique ys (p .least-y) (q .least-y) (b .least-y) (c .least-y) i;
+  greatest-x = greatest-unique xs (p .greatest-x) (q .greatest-x) (b .greatest-x) (c .greatest-x) i;
+  greatest-y = greatest-unique ys (p .greatest-y) (q .greatest-y) (b .greatest-y) (c .greatest-y) i;
+}
+
+pub first-met : (xs ys : List ℕ) (p : Bounds) → 0 < length xs → 0 < length ys → Boxed xs ys p → p ≡ boxOf xs ys
+first-met xs ys p h k b = boxed-unique xs ys p (boxOf xs ys) b (box-met xs ys h k)
 
 -- it holds each vertex
 pub box-holds : (xs ys : List ℕ) (i : ℕ) → i < length xs → length ys ≡ length xs → Holds (boxOf xs ys) (getD xs i 0) (getD ys i 0)

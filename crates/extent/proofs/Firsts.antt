@@ -1,6 +1,6 @@
 -- The least and the greatest of a list, the first met among equals. One law for both: over an order that is at most or at least.
 -- Assumes nothing.
-use mathlib.Core.Path.{_≡_, refl, sym, _∙_, subst}
+use mathlib.Core.Path.{_≡_, refl, sym, ap, _∙_, subst}
 use mathlib.Core.Bool.{Bool, true, false, cond}
 use mathlib.Core.List.{List, [], _∷_}
 use Prim.Native.Nat.{ℕ, zero, suc, _+_, _<_, zero-le, suc-le-suc}
@@ -10,7 +10,8 @@ use lib.ListN.{length, getD, take, drop, length-take, length-drop}
 use lib.Seq.{getD-take, getD-drop}
 use Rattle.extent.specs.Rank.{atMost, below, sameValue}
 use Rattle.extent.specs.Boxes.{lesser, greater, leastOf, greatestOf}
-use Rattle.extent.proofs.Ranks.{at-most-refl, at-most-trans, below-at-most, at-most-below, below-trans, not-below, below-not-same}
+use Rattle.extent.proofs.Tests.{tri}
+use Rattle.extent.proofs.Ranks.{at-most-refl, at-most-trans, below-at-most, at-most-below, below-trans, below-not-itself, not-below, below-not-same}
 
 -- an order R with its strict form S
 pub record Ordered (R S : ℕ → ℕ → Type 0) : Type 0 where
@@ -69,6 +70,13 @@ module _ (R S : ℕ → ℕ → Type 0) (o : Ordered R S) where
       go : (k : ℕ) → k < length (a ∷ xs) → v ≡ getD (a ∷ xs) k 0 → ((i : ℕ) → i < k → S v (getD (a ∷ xs) i 0)) → Met R S (a ∷ x ∷ xs) v
       go zero h e f = record { place = 0; inside = suc-le-suc zero-le; found = e; best = best; first = λ i l. absurd (omega arith) }
       go (suc k) h e f = record { place = suc (suc k); inside = suc-le-suc h; found = e; best = best; first = later k f }
+
+  -- no two are met so: of two places, the earlier one's value would be strictly after the later one's, and first to it
+  met-unique : ((a : ℕ) → S a a → ⊥) → (l : List ℕ) (v w : ℕ) → Met R S l v → Met R S l w → v ≡ w
+  met-unique strict l v w m n = m .found ∙ ap (λ (i : ℕ). getD l i 0) (tri (m .place) (n .place) (clash v w m n) (clash w v n m)) ∙ sym (n .found)
+    where
+      clash : (v w : ℕ) (m : Met R S l v) (n : Met R S l w) → m .place < n .place → ⊥
+      clash v w m n h = strict w (o .strict-weak w v w (subst (S w) (sym (m .found)) (n .first (m .place) h)) (subst (R v) (sym (n .found)) (m .best (n .place) (n .inside))))
 
 -- the one of a whole list is first to the one of a part
 pub met-part : (R S : ℕ → ℕ → Type 0) (l : List ℕ) (i k v w : ℕ) → Met R S l v → Met R S (take k (drop i l)) w → R v w
@@ -129,3 +137,10 @@ least-first l v i m h = below-not-same v (getD l i 0) (m .first i h)
 
 pub greatest-first : (l : List ℕ) (v i : ℕ) (m : Met AtLeast Above l v) → i < m .place → sameValue (getD l i 0) v ≡ false
 greatest-first l v i m h = below-not-same (getD l i 0) v (m .first i h)
+
+-- the rule fixes it: two that are met so are one
+pub least-unique : (l : List ℕ) (v w : ℕ) → Met AtMost Below l v → Met AtMost Below l w → v ≡ w
+least-unique l v w m n = met-unique AtMost Below upward below-not-itself l v w m n
+
+pub greatest-unique : (l : List ℕ) (v w : ℕ) → Met AtLeast Above l v → Met AtLeast Above l w → v ≡ w
+greatest-unique l v w m n = met-unique AtLeast Above downward below-not-itself l v w m n

@@ -13,3 +13,5 @@ pub mod Forms
 pub mod Boxed
 pub mod Meeting
 pub mod Sames
+pub mod Within
+pub mod Floats

@@ -29,6 +29,9 @@ at-most-below a b c p q = lt-below a c (lt-of-le-of-lt (at-most-le a b p) (below
 pub below-trans : (a b c : ℕ) → below a b ≡ true → atMost b c ≡ true → below a c ≡ true
 below-trans a b c p q = lt-below a c (lt-of-lt-of-le (below-lt a b p) (at-most-le b c q))
 
+pub below-not-itself : (a : ℕ) → below a a ≡ true → ⊥
+below-not-itself a e = let h = below-lt a a e in omega arith
+
 -- at most is not above
 pub not-below : (a b : ℕ) → below a b ≡ false → atMost b a ≡ true
 not-below a b e = le-at-most b a (not-below-le a b e)

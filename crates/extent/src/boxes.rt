@@ -4,9 +4,10 @@ ghost use mathlib.Core.Bool.{true};
 ghost use Prim.Native.Nat.{_<_};
 ghost use lib.ListN.{length};
 ghost use Rattle.extent.specs.Rank.{finite, allFinite};
-ghost use Rattle.extent.specs.Boxes.{bitsOf, patterns, FiniteBox, fourFinite, inOrder, sameBox, meets, lesser, greater, spotOf, withVertex, boxOf};
+ghost use Rattle.extent.specs.Boxes.{bitsOf, patterns, FiniteBox, fourFinite, inOrder, goodForm, sameBox, meets, lesser, greater, spotOf, withVertex, boxOf};
 ghost use Rattle.extent.specs.Forms.{formOf};
 use crate::rank::finite;
+use crate::rank::finite_float;
 use crate::rank::float_of;
 
 // A box is four floats.
@@ -160,4 +161,28 @@ pub fn form_of(least_x: u64, least_y: u64, greatest_x: u64, greatest_y: u64) -> 
         }
     }
     Form::Bad
+}
+
+// Whether the four floats of a box are finite, any floats.
+fn floats_finite(b: Box) -> bool
+    ensures { λ r. ⌜ r ≡ fourFinite (patterns b) ⌝ }
+{
+    if finite_float(b.least_x) {
+        if finite_float(b.least_y) {
+            if finite_float(b.greatest_x) {
+                return finite_float(b.greatest_y);
+            }
+        }
+    }
+    false
+}
+
+// Whether a box of any floats is of good form.
+pub fn good_form(b: Box) -> bool
+    ensures { λ r. ⌜ r ≡ goodForm (patterns b) ⌝ }
+{
+    if floats_finite(b) {
+        return in_order(b);
+    }
+    false
 }

@@ -2,7 +2,7 @@
 ghost use mathlib.Core.Path.{_≡_};
 ghost use mathlib.Core.Bool.{true};
 ghost use lib.Ieee.{binary64, ofBits};
-ghost use Rattle.extent.specs.Rank.{finite};
+ghost use Rattle.extent.specs.Rank.{finite, allFinite};
 ghost use Rattle.extent.specs.Boxes.{bitsOf};
 
 // Neither an infinity nor a NaN: the exponent's field is below 2047.
@@ -26,4 +26,31 @@ pub fn bits_of(x: f64) -> u64
     ensures { λ r. ⌜ r ≡ bitsOf x ⌝ }
 {
     f64::to_bits(x)
+}
+
+// Whether all patterns are finite.
+pub fn all_finite(vs: &[u64]) -> bool
+    ensures { λ r. ⌜ r ≡ allFinite (now (vs .entry)) ⌝ }
+{
+    let mut i: usize = 0;
+    while i < vs.len() {
+        if finite(vs[i]) {
+            i += 1;
+        } else {
+            return false;
+        }
+    }
+    true
+}
+
+// Whether a float is finite, any float: it lies between the least and the greatest of the finite ones. (A NaN lies nowhere.)
+pub fn finite_float(x: f64) -> bool
+    ensures { λ r. ⌜ r ≡ finite (bitsOf x) ⌝ }
+{
+    let least = float_of(0xFFEF_FFFF_FFFF_FFFF);
+    let greatest = float_of(0x7FEF_FFFF_FFFF_FFFF);
+    if least <= x {
+        return x <= greatest;
+    }
+    false
 }

@@ -1,0 +1,155 @@
+-- What a query block that is accepted says: it asks a sound query, it is there in full, and it is exactly a block of kind 4. Assumes nothing.
+use mathlib.Core.Path.{_≡_, refl, sym, ap, _∙_, subst}
+use mathlib.Core.Bool.{Bool, true, false, _&&_, cond}
+use mathlib.Core.List.{List}
+use Prim.Native.Nat.{ℕ, _+_, _≤_}
+use native.Mathlib.Omega.{arith}
+use borrow.Author.Tests.{eqb-true}
+use lib.ListN.{length, take, length-take}
+use lib.Dec.{leb, eqb}
+use Rattle.answer.specs.declared.Refusal.{Refusal}
+use Rattle.answer.specs.Table.{query, cut}
+use Rattle.answer.specs.Refusal.{because}
+use Rattle.answer.specs.Outcome.{Out, refused, ok, need}
+use Rattle.answer.proofs.Outcomes.{never, ok-inj, need-ok, on-ok}
+use Rattle.le.specs.declared.block.Block.{Block}
+use Rattle.le.specs.Number.{numberAt}
+use Rattle.le.specs.Block.{blockAt}
+use Rattle.le.proofs.Bytes.{number-at-part}
+use Rattle.le.proofs.Blocks as le
+use Rattle.le.proofs.Blocks.{block-fits}
+use Rattle.extent.specs.Rank.{finite}
+use Rattle.extent.specs.Boxes.{Bounds, goodForm}
+use Rattle.extent.proofs.Tests.{both, both-l, both-r}
+use Rattle.extent.proofs.Floats.{float-finite, floats-good}
+use Rattle.query.specs.declared.ask.Ask.{Ask}
+use Rattle.query.specs.declared.ask.Query.the-variants.{Everything}
+use Rattle.query.specs.Ask.{sound}
+use Rattle.query.specs.Block.{instead, bodyLen, lenOf, blockLen, spotAsked, windowAsked, boundsAt, asked, askOf}
+use Rattle.query.proofs.Blocks.{len-is, block-found, ask-exactly, body-most}
+
+-- ---- what is asked is sound
+
+spot-sound : (x y : ℕ) (a : Ask) → spotAsked x y ≡ ok a → sound (a .query) ≡ true
+unfolding spotAsked sound
+spot-sound x y a e =
+    let w = need-ok (finite x && finite y) (because query) _ a e in
+    let fx = float-finite x (both-l (finite x) (finite y) (w .0)) in
+    let fy = float-finite y (both-r (finite x) (finite y) (w .0)) in
+    ap (λ (k : Ask). sound (k .query)) (sym (ok-inj (w .1))) ∙ both fx fy
+
+window-sound : (p : Bounds) (a : Ask) → windowAsked p ≡ ok a → sound (a .query) ≡ true
+unfolding windowAsked sound
+window-sound p a e =
+    let w = need-ok (goodForm p) (because query) _ a e in
+    ap (λ (k : Ask). sound (k .query)) (sym (ok-inj (w .1))) ∙ floats-good p (w .0)
+
+-- whichever of two gave it
+either : (P : Type 0) (t : Bool) (x y : Out Ask) (a : Ask) → (x ≡ ok a → P) → (y ≡ ok a → P) → cond t x y ≡ ok a → P
+either P true x y a f g e = f e
+either P false x y a f g e = g e
+
+asked-sound : (s : List ℕ) (a : Ask) → asked s ≡ ok a → sound (a .query) ≡ true
+unfolding asked
+asked-sound s a e =
+    either (sound (a .query) ≡ true) (eqb (length s) 6) _ _ a (λ h. ap (λ (k : Ask). sound (k .query)) (sym (ok-inj h)) ∙ everything)
+    (λ g. either (sound (a .query) ≡ true) (eqb (length s) 22) _ _ a (spot-sound (numberAt 8 s 6) (numberAt 8 s 14) a)
+    (λ h. either (sound (a .query) ≡ true) (eqb (length s) 38) _ _ a (window-sound (boundsAt s 6) a) (λ n. absurd (never n)) h) g) e
+  where
+    everything : sound Everything ≡ true
+    everything = unfold sound in refl
+
+pub ask-sound : (s : List ℕ) (a : Ask) → askOf s ≡ ok a → sound (a .query) ≡ true
+unfolding askOf
+ask-sound s a e =
+    let w = on-ok (blockLen s) (λ n. need (eqb n (length s)) (because query) (asked s)) a e in
+    asked-sound s a (need-ok (eqb (w .0) (length s)) (because query) (asked s) a (w .2) .1)
+
+-- ---- the block that is found
+
+instead-ok : {A : Type 0} (w : Refusal) (o : Out A) (a : A) → instead w o ≡ ok a → o ≡ ok a
+unfolding instead
+instead-ok w (refused x) a e = absurd (never e)
+instead-ok w (ok b) a e = e
+
+found-is : (s : List ℕ) (at : ℕ) (b : Block) → blockAt s at ≡ ok b → record { kind = numberAt 2 s (at + 4); body = at + 6; len = numberAt 4 s at } ≡ b
+unfolding blockAt
+found-is s at b e =
+    let p = need-ok (leb (at + 6) (length s)) (because cut) _ b e .1 in
+    ok-inj (need-ok (leb (at + 6 + numberAt 4 s at) (length s)) (because cut) _ b p .1)
+
+-- a query block of n bytes at the front: the block that stands there
+pub record Fronts (s : List ℕ) (n : ℕ) : Type 0 where
+  pub block : Block
+  pub found : blockAt s 0 ≡ ok block
+  pub kind : block .kind ≡ 4
+  pub body : bodyLen (block .len) ≡ true
+  pub takes : 6 + block .len ≡ n
+
+pub len-fronts : (s : List ℕ) (n : ℕ) → blockLen s ≡ ok n → Fronts s n
+unfolding blockLen lenOf
+len-fronts s n e =
+    let w = on-ok (instead (because query) (blockAt s 0)) lenOf n e in
+    let b = w .0 in
+    let v = need-ok (eqb (b .kind) 4 && bodyLen (b .len)) (because query) (ok (6 + b .len)) n (w .2) in
+    record {
+      block = b;
+      found = instead-ok (because query) (blockAt s 0) b (w .1);
+      kind = eqb-true (b .kind) 4 (both-l (eqb (b .kind) 4) (bodyLen (b .len)) (v .0));
+      body = both-r (eqb (b .kind) 4) (bodyLen (b .len)) (v .0);
+      takes = ok-inj (v .1);
+    }
+
+pub fronts-len : (s : List ℕ) (n : ℕ) → Fronts s n → blockLen s ≡ ok n
+fronts-len s n f = block-found s (f .block) (f .found) ∙ len-is (f .block) (f .kind) (f .body) ∙ ap ok (f .takes)
+
+-- it is there in full, and is short
+pub len-fits : (s : List ℕ) (n : ℕ) → blockLen s ≡ ok n → n ≤ length s
+len-fits s n e =
+    let f = len-fronts s n e in
+    let h = block-fits s 0 (f .block) (f .found) in
+    let k : 6 ≡ f .block .body = ap (λ (b : Block). b .body) (found-is s 0 (f .block) (f .found)) in
+    let t = f .takes in
+    omega (arith, h, k, t)
+
+pub len-short : (s : List ℕ) (n : ℕ) → blockLen s ≡ ok n → n ≤ 38
+len-short s n e =
+    let f = len-fronts s n e in
+    let h = body-most (f .block .len) (f .body) in
+    let t = f .takes in
+    omega (arith, h, t)
+
+-- it says no more than its bytes: taken alone, it is found too
+pub len-alone : (s : List ℕ) (n : ℕ) → blockLen s ≡ ok n → blockLen (take n s) ≡ ok n
+len-alone s n e =
+    let f = len-fronts s n e in
+    let b = f .block in
+    let q = found-is s 0 b (f .found) in
+    let t = f .takes in
+    let h = len-fits s n e in
+    let z = length-take n s in
+    fronts-len (take n s) n (record {
+      block = record { kind = b .kind; body = 6; len = b .len };
+      found =
+          le.block-found (take n s) 0 (b .kind) (b .len) (sym (ap (λ (k : Block). k .kind) q) ∙ sym (number-at-part 2 n 0 4 s (omega (arith, t))))
+          (sym (ap (λ (k : Block). k .len) q) ∙ sym (number-at-part 4 n 0 0 s (omega (arith, t)))) (omega (arith, t, h, z));
+      kind = f .kind;
+      body = f .body;
+      takes = t;
+    })
+
+-- ---- exactly a block: what is accepted, and that it is
+
+pub record Accepts (s : List ℕ) (a : Ask) : Type 0 where
+  pub exactly : Fronts s (length s)
+  pub says : asked s ≡ ok a
+
+pub ask-accepts : (s : List ℕ) (a : Ask) → askOf s ≡ ok a → Accepts s a
+unfolding askOf
+ask-accepts s a e =
+    let w = on-ok (blockLen s) (λ n. need (eqb n (length s)) (because query) (asked s)) a e in
+    let v = need-ok (eqb (w .0) (length s)) (because query) (asked s) a (w .2) in
+    record { exactly = subst (Fronts s) (eqb-true (w .0) (length s) (v .0)) (len-fronts s (w .0) (w .1)); says = v .1 }
+
+pub accepts-ask : (s : List ℕ) (a : Ask) → Accepts s a → askOf s ≡ ok a
+accepts-ask s a h = ask-exactly s (length s) (fronts-len s (length s) (h .exactly)) refl ∙ h .says

@@ -1,0 +1,47 @@
+-- `query::block::ask_of` finds the block's length, tests that nothing follows, and reads what is asked. Assumes nothing.
+use mathlib.Core.Path.{sym, ap, _∙_}
+use Rattle.query.specs.Block.{saidLen, said}
+use Rattle.query.proofs.Blocks.{ask-exactly, ask-longer, ask-refused}
+use borrow.Author.Needs.{needs}
+use Rattle.query.proofs.block.ask_of.Statement.{statement}
+use Rattle.query.proofs.block.ask_of.Tie as tie
+
+block-len-requires : tie.Need-block-len-requires
+block-len-requires c κs = search needs
+
+enum-known-len : tie.Need-enum-known-len
+enum-known-len c = search needs
+
+asked-requires : tie.Need-asked-requires
+asked-requires c κs = search needs
+
+returns : tie.Need-returns
+unfolding saidLen
+returns c = c .asked .ensures ∙ sym (ask-exactly _ _ (sym (c .before .before .before .before .before .block-len .ensures) ∙ ap saidLen (c .before .before .before .len .given .1)) (c .before .if1 .taken))
+
+unsound-requires : tie.Need-unsound-requires
+unsound-requires c κs = search needs
+
+enum-known-len-2 : tie.Need-enum-known-len-2
+enum-known-len-2 c = search needs
+
+returns-2 : tie.Need-returns-2
+unfolding saidLen
+returns-2 c = c .unsound .ensures ∙ sym (ask-longer _ _ (sym (c .before .before .before .before .before .block-len .ensures) ∙ ap saidLen (c .before .before .before .len .given .1)) (c .before .if1 .left))
+
+returns-3 : tie.Need-returns-3
+unfolding saidLen said
+returns-3 c = sym (ask-refused _ _ (sym (c .before .before .before .block-len .ensures) ∙ ap saidLen (c .before .len2 .given .1)))
+
+pub ask-of-spec : {M : Type 1} → statement M
+ask-of-spec =
+    tie.close
+    (tie.spec
+    block-len-requires
+    enum-known-len
+    asked-requires
+    returns
+    unsound-requires
+    enum-known-len-2
+    returns-2
+    returns-3)

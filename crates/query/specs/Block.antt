@@ -1,0 +1,100 @@
+-- The query block: "a query block (kind 4; body empty, 16 or 32 bytes of floats for everything, spot, window)". "An input too short for its query
+-- block, or another kind or length, is 1." Assumes nothing.
+use Prim.Native.Nat.{ℕ, _+_, _*_}
+use mathlib.Core.Bool.{Bool, _&&_, _||_, cond}
+use mathlib.Core.List.{List, [], _∷_, _++_}
+use lib.ListN.{length}
+use lib.Dec.{eqb}
+use lib.Ieee.{binary64, ofBits}
+use Rattle.answer.specs.declared.Refusal.{Refusal}
+use Rattle.answer.specs.Table.{query}
+use Rattle.answer.specs.Refusal.{because}
+use Rattle.answer.specs.Outcome.{Out, refused, ok, need, on}
+use Rattle.le.specs.declared.block.Block.{Block}
+use Rattle.le.specs.Number.{numberAt, bytesOf}
+use Rattle.le.specs.Block.{blockAt, headOf}
+use Rattle.extent.specs.Rank.{finite}
+use Rattle.extent.specs.Boxes.{Bounds, bitsOf, goodForm}
+use Rattle.extent.specs.Forms.{floatsOf}
+use Rattle.query.specs.declared.ask.Ask.{Ask}
+use Rattle.query.specs.declared.ask.Query.{Query}
+use Rattle.query.specs.declared.ask.Query.the-variants.{Everything, Spot, Window}
+use Rattle.query.specs.declared.block.BlockLen.{BlockLen}
+use Rattle.query.specs.declared.block.BlockLen.the-variants as len
+use Rattle.query.specs.declared.block.AskRead.{AskRead}
+use Rattle.query.specs.declared.block.AskRead.the-variants as read
+
+-- the same, whatever refusal being this one
+unfoldable pub instead : {A : Type 0} → Refusal → Out A → Out A
+instead w (refused x) = refused w
+instead w (ok a) = ok a
+
+-- ---- the block at the front of an input
+
+-- the body is empty, or 16 or 32 bytes
+unfoldable pub bodyLen : ℕ → Bool
+bodyLen n = eqb n 0 || eqb n 16 || eqb n 32
+
+-- the bytes that a query block takes: its head's six and its body
+unfoldable pub lenOf : Block → Out ℕ
+lenOf b = need (eqb (b .kind) 4 && bodyLen (b .len)) (because query) (ok (6 + b .len))
+
+unfoldable pub blockLen : List ℕ → Out ℕ
+blockLen s = on (instead (because query) (blockAt s 0)) lenOf
+
+-- what the code's answer says
+unfoldable pub saidLen : BlockLen → Out ℕ
+saidLen (len.Is n) = ok n
+saidLen (len.Refused w) = refused w
+
+-- ---- what a block asks
+
+-- a spot, if its patterns are finite
+unfoldable pub spotAsked : ℕ → ℕ → Out Ask
+spotAsked x y = need (finite x && finite y) (because query) (ok (record { query = Spot (ofBits binary64 x) (ofBits binary64 y) }))
+
+-- a window, if its patterns are of good form
+unfoldable pub windowAsked : Bounds → Out Ask
+windowAsked p = need (goodForm p) (because query) (ok (record { query = Window (floatsOf p) }))
+
+-- the four patterns of a window's body
+unfoldable pub boundsAt : List ℕ → ℕ → Bounds
+boundsAt s at = record {
+  least-x = numberAt 8 s at;
+  least-y = numberAt 8 s (at + 8);
+  greatest-x = numberAt 8 s (at + 16);
+  greatest-y = numberAt 8 s (at + 24);
+}
+
+-- by its length: everything, a spot, a window
+unfoldable pub asked : List ℕ → Out Ask
+asked s =
+    cond (eqb (length s) 6) (ok (record { query = Everything }))
+    (cond (eqb (length s) 22) (spotAsked (numberAt 8 s 6) (numberAt 8 s 14))
+    (cond (eqb (length s) 38) (windowAsked (boundsAt s 6)) (refused (because query))))
+
+-- what the bytes of exactly a query block ask
+unfoldable pub askOf : List ℕ → Out Ask
+askOf s = on (blockLen s) (λ n. need (eqb n (length s)) (because query) (asked s))
+
+-- what the code's answer says
+unfoldable pub said : AskRead → Out Ask
+said (read.Asked a) = ok a
+said (read.Refused w) = refused w
+
+-- ---- the block of a query, as bytes
+
+-- patterns, eight bytes each
+unfoldable pub words : List ℕ → List ℕ
+words [] = []
+words (x ∷ xs) = bytesOf 8 x ++ words xs
+
+-- a query's patterns, in the order of the body
+unfoldable pub wordsOf : Query → List ℕ
+wordsOf Everything = []
+wordsOf (Spot x y) = bitsOf x ∷ bitsOf y ∷ []
+wordsOf (Window b) = bitsOf (b .«least_x») ∷ bitsOf (b .«least_y») ∷ bitsOf (b .«greatest_x») ∷ bitsOf (b .«greatest_y») ∷ []
+
+-- a head of kind 4, and the patterns
+unfoldable pub blockOf : Query → List ℕ
+blockOf q = headOf (8 * length (wordsOf q)) 4 ++ words (wordsOf q)
