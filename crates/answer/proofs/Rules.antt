@@ -6,8 +6,8 @@ use Rattle.answer.specs.declared.Refusal.{Refusal}
 use Rattle.answer.specs.declared.Verdict.{Verdict}
 use Rattle.answer.specs.declared.Verdict.the-variants.{Holds, Refused}
 use Rattle.answer.specs.Refusal.{because}
-use Rattle.answer.specs.Outcome.{Out, refused, ok, need}
-use Rattle.answer.specs.Rule.{rule, judged}
+use Rattle.answer.specs.Outcome.{Out, refused, ok, need, on}
+use Rattle.answer.specs.Rule.{rule, judged, passed}
 use Rattle.answer.proofs.Outcomes.{never, refused-inj, met, unmet}
 
 -- a test that holds, and one that does not
@@ -41,3 +41,30 @@ judged-one Holds Holds e = refl
 judged-one Holds (Refused w) e = absurd (never (sym e))
 judged-one (Refused w) Holds e = absurd (never e)
 judged-one (Refused w) (Refused x) e = ap Refused (refused-inj e)
+
+-- ---- an outcome's verdict
+
+pub passed-ok : {A : Type 0} {o : Out A} (a : A) → o ≡ ok a → judged Holds ≡ passed o
+unfolding judged passed on
+passed-ok a e = rw e
+
+pub passed-refused : {A : Type 0} {o : Out A} (w : Refusal) → o ≡ refused w → judged (Refused w) ≡ passed o
+unfolding judged passed on
+passed-refused w e = rw e
+
+-- what is made of a value has its verdict
+pub passed-on : {A B : Type 0} (o : Out A) (f : A → B) → passed (on o (λ a. ok (f a))) ≡ passed o
+unfolding passed on
+passed-on (refused w) f = refl
+passed-on (ok a) f = refl
+
+-- and back: what a verdict that was handed on tells of the outcome
+pub holds-passed : {A : Type 0} (o : Out A) → judged Holds ≡ passed o → (a : A) × (o ≡ ok a)
+unfolding judged passed on
+holds-passed (refused w) e = absurd (never (sym e))
+holds-passed (ok a) e = (a, refl)
+
+pub refused-passed : {A : Type 0} (o : Out A) (w : Refusal) → judged (Refused w) ≡ passed o → o ≡ refused w
+unfolding judged passed on
+refused-passed (refused x) w e = ap refused (sym (refused-inj e))
+refused-passed (ok a) w e = absurd (never e)

@@ -4,7 +4,7 @@ use mathlib.Core.Bool.{Bool}
 use Rattle.answer.specs.declared.Verdict.{Verdict}
 use Rattle.answer.specs.declared.Verdict.the-variants.{Holds, Refused}
 use Rattle.answer.specs.Refusal.{because}
-use Rattle.answer.specs.Outcome.{Out, refused, ok, need}
+use Rattle.answer.specs.Outcome.{Out, refused, ok, need, on}
 
 -- what a rule comes to
 unfoldable pub rule : Bool → ℕ → Out (Unit {0})
@@ -14,3 +14,7 @@ rule holds number = need holds (because number) (ok tt)
 unfoldable pub judged : Verdict → Out (Unit {0})
 judged Holds = ok tt
 judged (Refused w) = refused w
+
+-- an outcome's verdict: its refusal, or nothing more to say
+unfoldable pub passed : {A : Type 0} → Out A → Out (Unit {0})
+passed o = on o (λ a. ok tt)

@@ -1,0 +1,101 @@
+-- A second walk over a file whose frame is sound: what is still to come from a cursor on, as a loop's invariant. Assumes nothing.
+use Prim.Native.Nat.{ℕ, suc, _-_, _<_}
+use mathlib.Core.Path.{_≡_, refl, sym, ap, subst, _∙_}
+use mathlib.Core.List.{List, [], _∷_}
+use native.Mathlib.Omega.{arith}
+use lib.ListN.{length}
+use Rattle.answer.specs.declared.Refusal.{Refusal}
+use Rattle.answer.specs.Outcome.{Out, refused, ok}
+use Rattle.answer.proofs.Outcomes.{never, ok-inj, on-ok}
+use Rattle.frame.specs.declared.cursor.Cursor.{Cursor}
+use Rattle.frame.specs.declared.cursor.PageAt.{PageAt}
+use Rattle.frame.specs.Step.{Turn, page, end, firstOf, stepOf}
+use Rattle.frame.specs.Frame.{Page, Frame, pageOf, walk, frameOf}
+use Rattle.frame.proofs.Found.{page-is, first-is}
+use Rattle.frame.proofs.Walks.{Within, within-on, fewer-on, fuel, fuel-on, walk-refused, walk-end, walk-page}
+
+-- from cursor c on come the pages ps, and then the end
+pub record Ahead (s : List ℕ) (c : Cursor) (ps : List Page) : Type 0 where
+  pub within : Within c
+  pub walked : walk (1025 - c .pages) s c ≡ ok ps
+
+-- at the start all pages of the frame
+pub ahead-start : (s : List ℕ) (f : Frame) → frameOf s ≡ ok f → (c : Cursor) × (firstOf s ≡ ok c) × (c .edition ≡ f .edition) × Ahead s c (f .pages)
+unfolding frameOf
+ahead-start s f e =
+    let a = on-ok _ _ f e in
+    let c : Cursor = a .0 in
+    let b = on-ok _ _ f (a .2) in
+    let k = first-is s c (a .1) in
+    let n : c .pages ≡ 0 = ap (λ (x : Cursor). x .pages) (k .after) in
+    let m : c .shapes ≡ 0 = ap (λ (x : Cursor). x .shapes) (k .after) in
+    let g : record { edition = c .edition; pages = b .0 } ≡ f = ok-inj (b .2) in (
+      c,
+      a .1,
+      ap (λ (x : Frame). x .edition) g,
+      record {
+        within = record { pages = omega arith; shapes = omega arith };
+        walked = rw n (b .1 ∙ ap (λ (x : Frame). ok (x .pages)) g);
+      },
+    )
+
+-- the same, for a cursor that `first` gave; and the first block is not refused
+pub ahead-first : (s : List ℕ) (f : Frame) (c : Cursor) → frameOf s ≡ ok f → firstOf s ≡ ok c → (c .edition ≡ f .edition) × Ahead s c (f .pages)
+ahead-first s f c e d =
+    let a = ahead-start s f e in
+    subst (λ (x : Cursor). (x .edition ≡ f .edition) × Ahead s x (f .pages)) (ok-inj (sym (a .1) ∙ d)) (a .2, a .3)
+
+pub first-never : (s : List ℕ) (f : Frame) (w : Refusal) → frameOf s ≡ ok f → firstOf s ≡ refused w → ⊥
+first-never s f w e d = never (sym d ∙ ahead-start s f e .1)
+
+module _ (s : List ℕ) (c : Cursor) (ps : List Page) (a : Ahead s c ps) where
+  now-walked : walk (suc (1024 - c .pages)) s c ≡ ok ps
+  now-walked = rw (← fuel c (a .within)) (a .walked)
+
+  -- a step is never refused
+  pub ahead-never : (w : Refusal) → stepOf s c ≡ refused w → ⊥
+  ahead-never w e = never (sym (walk-refused s c (1024 - c .pages) w e) ∙ now-walked)
+
+  -- at the end nothing is to come
+  pub ahead-end : stepOf s c ≡ ok end → ps ≡ []
+  ahead-end e = ok-inj (sym now-walked ∙ walk-end s c (1024 - c .pages) e)
+
+  -- a page that is found is the first of those to come, and from the cursor after it the others are to come
+  pub ahead-page : (p : PageAt) → stepOf s c ≡ ok (page p) → (qs : List Page) × (ps ≡ pageOf s p ∷ qs) × Ahead s (p .next) qs
+  ahead-page p e =
+      let k = page-is s c p e in
+      let b = on-ok _ _ ps (sym (walk-page s c (1024 - c .pages) p e) ∙ now-walked) in (
+        b .0,
+        sym (ok-inj (b .2)),
+        record { within = within-on s c (a .within) p k; walked = rw (fuel-on s c (a .within) p k) (b .1) },
+      )
+
+  -- and the pages that may follow get fewer
+  pub ahead-fewer : (p : PageAt) → stepOf s c ≡ ok (page p) → 1025 - p .next .pages < 1025 - c .pages
+  ahead-fewer p e = fewer-on s c (a .within) p (page-is s c p e)
+
+-- so, where pages are to come, a step finds the first of them; where none are, the end
+pub ahead-some : (s : List ℕ) (c : Cursor) (q : Page) (qs : List Page) → Ahead s c (q ∷ qs)
+    → (p : PageAt) × (stepOf s c ≡ ok (page p)) × (pageOf s p ≡ q) × Ahead s (p .next) qs
+ahead-some s c q qs a = go (stepOf s c) refl
+  where
+    go : (x : Out Turn) → stepOf s c ≡ x → (p : PageAt) × (stepOf s c ≡ ok (page p)) × (pageOf s p ≡ q) × Ahead s (p .next) qs
+    go (refused w) e = absurd (ahead-never s c (q ∷ qs) a w e)
+    go (ok end) e = let n : _≡_ {A = ℕ} (suc (length qs)) 0 = ap length (ahead-end s c (q ∷ qs) a e) in absurd (omega arith)
+    go (ok (page p)) e =
+        let k = ahead-page s c (q ∷ qs) a p e in
+        let h : q ∷ qs ≡ pageOf s p ∷ k .0 = k .1 in
+        let hq : pageOf s p ≡ q = cc in
+        let hs : k .0 ≡ qs = cc in
+        (p, e, hq, subst (Ahead s (p .next)) hs (k .2))
+
+pub ahead-none : (s : List ℕ) (c : Cursor) → Ahead s c [] → stepOf s c ≡ ok end
+ahead-none s c a = go (stepOf s c) refl
+  where
+    go : (x : Out Turn) → stepOf s c ≡ x → stepOf s c ≡ ok end
+    go (refused w) e = absurd (ahead-never s c [] a w e)
+    go (ok end) e = e
+    go (ok (page p)) e =
+        let k = ahead-page s c [] a p e in
+        let n : _≡_ {A = ℕ} 0 (suc (length (k .0))) = ap length (k .1) in
+        absurd (omega arith)

@@ -1,0 +1,88 @@
+-- Laws of the box of a page with v vertices: when its form is good, and the box itself then. Assumes nothing.
+use Prim.Native.Nat.{ℕ}
+use mathlib.Core.Path.{_≡_, refl, ap, _∙_}
+use mathlib.Core.Bool.{Bool, true, false, cond}
+use native.Mathlib.Omega.{arith}
+use lib.Dec.{eqb}
+use borrow.Author.Tests.{eq-eqb, ne-eqb, eqb-true}
+use Rattle.extent.specs.Rank.{finite}
+use Rattle.extent.specs.Boxes.{Bounds, FiniteBox, goodForm, spotOf}
+use Rattle.extent.specs.Forms.{floatsOf, formOf}
+use Rattle.extent.specs.declared.boxes.Box.{Box}
+use Rattle.extent.specs.declared.boxes.Form.{Form}
+use Rattle.extent.specs.declared.boxes.Form.the-variants.{Good, Bad}
+use Rattle.extent.proofs.Tests.{all-four}
+use Rattle.extent.proofs.Forms.{spot-good, good-finite}
+use Rattle.frame.specs.Head.{allZero, boxOk, formIn}
+
+-- ---- all zero bytes
+
+pub zero-is : (p : Bounds) → allZero p ≡ true → p ≡ spotOf 0 0
+unfolding allZero
+zero-is p e i =
+    let f = all-four (eqb (p .least-x) 0) (eqb (p .least-y) 0) (eqb (p .greatest-x) 0) (eqb (p .greatest-y) 0) e in
+    record {
+      least-x = eqb-true (p .least-x) 0 (f .0) i;
+      least-y = eqb-true (p .least-y) 0 (f .1) i;
+      greatest-x = eqb-true (p .greatest-x) 0 (f .2) i;
+      greatest-y = eqb-true (p .greatest-y) 0 (f .3) i;
+    }
+
+-- they are a box too
+pub zero-good : (p : Bounds) → allZero p ≡ true → goodForm p ≡ true
+unfolding finite
+zero-good p e = ap goodForm (zero-is p e) ∙ spot-good 0 0 refl refl
+
+-- ---- the form, with no vertex and with some
+
+pub box-none : (v : ℕ) (p : Bounds) → v ≡ 0 → boxOk v p ≡ allZero p
+unfolding boxOk
+box-none v p e = simp (eq-eqb v 0 e)
+
+pub box-some : (v : ℕ) (p : Bounds) → (v ≡ 0 → ⊥) → boxOk v p ≡ goodForm p
+unfolding boxOk
+box-some v p n = simp (ne-eqb v 0 n)
+
+-- in both cases it is a box
+pub box-good : (v : ℕ) (p : Bounds) → boxOk v p ≡ true → goodForm p ≡ true
+unfolding boxOk
+box-good v p = go (eqb v 0)
+  where
+    go : (t : Bool) → cond t (allZero p) (goodForm p) ≡ true → goodForm p ≡ true
+    go true e = zero-good p e
+    go false e = e
+
+pub box-finite : (v : ℕ) (p : Bounds) → boxOk v p ≡ true → FiniteBox p
+box-finite v p e = good-finite p (box-good v p e)
+
+-- ---- the three ends of the code
+
+pub form-some : (v : ℕ) (p : Bounds) (r : Form) → r ≡ formOf p → (v ≡ 0 → ⊥) → r ≡ formIn v p
+unfolding formIn formOf
+form-some v p r e n = rw (box-some v p n) e
+
+pub form-zero : (v : ℕ) (p : Bounds) (r : Form) → r ≡ formOf p → v ≡ 0 → allZero p ≡ true → r ≡ formIn v p
+unfolding formIn formOf
+form-zero v p r e n z = e ∙ rw (zero-good p z, box-none v p n, z)
+
+pub form-not-zero : (v : ℕ) (p : Bounds) → v ≡ 0 → allZero p ≡ false → Bad ≡ formIn v p
+unfolding formIn
+form-not-zero v p n z = rw (box-none v p n, z)
+
+-- ---- what an answer says
+
+pub form-in-good : (v : ℕ) (p : Bounds) (b : Box) → formIn v p ≡ Good b → (boxOk v p ≡ true) × (floatsOf p ≡ b)
+unfolding formIn
+form-in-good v p b = go (boxOk v p)
+  where
+    go : (t : Bool) → cond t (Good (floatsOf p)) Bad ≡ Good b → (t ≡ true) × (floatsOf p ≡ b)
+    go true e = (refl, cc)
+    go false e = let z : _≡_ {A = ℕ} 0 1 = cc in absurd (omega arith)
+
+pub form-in-bad : (v : ℕ) (p : Bounds) → formIn v p ≡ Bad → boxOk v p ≡ false
+unfolding formIn
+form-in-bad v p = go (boxOk v p)
+  where
+    go : (t : Bool) → cond t (Good (floatsOf p)) Bad ≡ Bad → t ≡ false
+    go true e = let z : _≡_ {A = ℕ} 0 1 = cc in absurd (omega arith)
+    go false e = refl

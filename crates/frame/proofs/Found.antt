@@ -1,0 +1,206 @@
+-- What was found at a place, told by the bytes there: a block, the first block, a page, the end; and that this is all. Assumes nothing.
+use Prim.Native.Nat.{ℕ, _+_, _≤_, _<_}
+use mathlib.Core.Path.{_≡_, refl, sym, ap, subst, _∙_}
+use mathlib.Core.Bool.{Bool, true, false, cond}
+use mathlib.Core.List.{List}
+use mathlib.Core.Logic.{_⊎_, inl, inr, ⊎-elim}
+use native.Mathlib.Omega.{arith}
+use borrow.Author.Tests.{ltb-true, leb-true, eqb-true}
+use lib.ListN.{length}
+use lib.Dec.{eqb}
+use Rattle.answer.specs.Table.{kind}
+use Rattle.answer.specs.Refusal.{because}
+use Rattle.answer.specs.Outcome.{Out, refused, ok, inPage}
+use Rattle.answer.proofs.Outcomes.{never, ok-inj, need-ok, on-ok}
+use Rattle.le.specs.declared.block.Block.{Block}
+use Rattle.le.specs.Number.{numberAt}
+use Rattle.le.specs.Block.{blockAt}
+use Rattle.le.proofs.Blocks.{block-found}
+use Rattle.extent.proofs.Tests.{both-l, both-r}
+use Rattle.frame.specs.declared.cursor.Cursor.{Cursor}
+use Rattle.frame.specs.declared.cursor.PageAt.{PageAt}
+use Rattle.frame.specs.Head.{headOf}
+use Rattle.frame.specs.Step.{part, Turn, page, end, past, firstStep, firstOf, pageStep, endStep, kindStep, stepOf}
+use Rattle.frame.proofs.Heads.{Headed, head-is}
+use Rattle.frame.proofs.Steps.{page-good, end-good, kind-page, kind-end, step-found, first-good, first-found, page-not-end, page-inj}
+
+-- ---- a block
+
+-- the block of this kind whose body is the len bytes from body on stands at a place
+pub record Stands (s : List ℕ) (at kind body len : ℕ) : Type 0 where
+  pub kind-at : numberAt 2 s (at + 4) ≡ kind
+  pub len-at : numberAt 4 s at ≡ len
+  pub body-at : body ≡ at + 6
+  pub fits : body + len ≤ length s
+
+pub block-is : (s : List ℕ) (at : ℕ) (b : Block) → blockAt s at ≡ ok b → Stands s at (b .kind) (b .body) (b .len)
+unfolding blockAt
+block-is s at b e =
+    let p = need-ok _ _ _ b e in
+    let q = need-ok _ _ _ b (p .1) in
+    subst (λ (x : Block). Stands s at (x .kind) (x .body) (x .len)) (ok-inj (q .1))
+    (record { kind-at = refl; len-at = refl; body-at = refl; fits = leb-true (at + 6 + numberAt 4 s at) (length s) (q .0) })
+
+pub is-block : (s : List ℕ) (at kind body len : ℕ) → Stands s at kind body len → blockAt s at ≡ ok (record { kind = kind; body = body; len = len })
+is-block s at kind body len k =
+    block-found s at kind len (sym (k .kind-at)) (sym (k .len-at)) (omega (arith, k .fits, k .body-at))
+    ∙ ap (λ (x : ℕ). ok (record { kind = kind; body = x; len = len })) (sym (k .body-at))
+
+-- ---- the first block
+
+pub record Begins (s : List ℕ) (c : Cursor) : Type 0 where
+  pub stands : Stands s 0 1 6 2
+  pub edition-at : numberAt 2 s 6 ≡ 1
+  pub after : c ≡ record { edition = 1; at = 8; pages = 0; shapes = 0 }
+
+module _ (s : List ℕ) (c : Cursor) where
+  pub first-is : firstOf s ≡ ok c → Begins s c
+  unfolding firstOf firstStep
+  first-is e =
+      let a = on-ok _ _ c e in
+      let b : Block = a .0 in
+      let t = block-is s 0 b (a .1) in
+      let k = need-ok _ _ _ c (a .2) in
+      let l = need-ok _ _ _ c (k .1) in
+      let x = need-ok _ _ _ c (l .1) in
+      let ek : b .kind ≡ 1 = eqb-true (b .kind) 1 (k .0) in
+      let el : b .len ≡ 2 = eqb-true (b .len) 2 (l .0) in
+      let eb : b .body ≡ 6 = t .body-at in
+      let ed : numberAt 2 s (b .body) ≡ 1 = eqb-true (numberAt 2 s (b .body)) 1 (x .0) in
+      record {
+        stands = rw (← ek, ← eb, ← el) t;
+        edition-at = rw (← eb) ed;
+        after = sym (ok-inj (x .1)) ∙ rw (ed, eb);
+      }
+
+  pub is-first : Begins s c → firstOf s ≡ ok c
+  is-first k =
+      first-found s (record { kind = 1; body = 6; len = 2 }) (is-block s 0 1 6 2 (k .stands))
+      ∙ first-good s (record { kind = 1; body = 6; len = 2 }) refl refl 1 (k .edition-at) refl
+      ∙ ap ok (sym (k .after))
+
+-- ---- a page
+
+-- the cursor after a page
+abbrev pub after : Cursor → PageAt → Cursor
+after c p = record { edition = c .edition; at = p .body + p .len; pages = c .pages + 1; shapes = c .shapes + p .head .g }
+
+pub record Paged (s : List ℕ) (c : Cursor) (p : PageAt) : Type 0 where
+  pub stands : Stands s (c .at) 2 (p .body) (p .len)
+  pub few : c .pages < 1024
+  pub headed : headOf (c .edition) (part s (p .body) (p .len)) ≡ ok (p .head)
+  pub next : p .next ≡ after c p
+
+pub record Ended (s : List ℕ) (c : Cursor) : Type 0 where
+  pub stands : Stands s (c .at) 3 (c .at + 6) 8
+  pub pages-at : numberAt 4 s (c .at + 6) ≡ c .pages
+  pub shapes-at : numberAt 4 s (c .at + 10) ≡ c .shapes
+  pub last : c .at + 14 ≡ length s
+
+-- a refusal's page is no value's matter
+in-page-ok : {A : Type 0} (k : ℕ) (x : Out A) (a : A) → inPage k x ≡ ok a → x ≡ ok a
+unfolding inPage
+in-page-ok k (refused w) a e = absurd (never e)
+in-page-ok k (ok b) a e = e
+
+in-page : {A : Type 0} (k : ℕ) (x : Out A) (a : A) → x ≡ ok a → inPage k x ≡ ok a
+unfolding inPage
+in-page k x a e = rw e
+
+module _ (s : List ℕ) (c : Cursor) where
+  -- what a page block and an end block come to
+  page-step-is : (b : Block) (t : Turn) → b .kind ≡ 2 → Stands s (c .at) (b .kind) (b .body) (b .len) → pageStep s c b ≡ ok t → (p : PageAt) × (t ≡ page p) × Paged s c p
+  unfolding pageStep
+  page-step-is b t k st e =
+      let f = need-ok _ _ _ t e in
+      let h = on-ok _ _ t (f .1) in (
+        record { head = h .0; body = b .body; len = b .len; next = past c b (h .0) },
+        sym (ok-inj (h .2)),
+        record {
+          stands = rw (← k) st;
+          few = ltb-true (c .pages) 1024 (f .0);
+          headed = h .1;
+          next = refl;
+        },
+      )
+
+  end-step-is : (b : Block) (t : Turn) → b .kind ≡ 3 → Stands s (c .at) (b .kind) (b .body) (b .len) → endStep s c b ≡ ok t → (t ≡ end) × Ended s c
+  unfolding endStep
+  end-step-is b t k st e =
+      let l = need-ok _ _ _ t e in
+      let n = need-ok _ _ _ t (l .1) in
+      let a = need-ok _ _ _ t (n .1) in
+      let el : b .len ≡ 8 = eqb-true (b .len) 8 (l .0) in
+      let eb : b .body ≡ c .at + 6 = st .body-at in
+      let ten : b .body + 4 ≡ c .at + 10 = omega arith in
+      let u : Bool = eqb (numberAt 4 s (b .body)) (c .pages) in
+      let v : Bool = eqb (numberAt 4 s (b .body + 4)) (c .shapes) in
+      let x : numberAt 4 s (b .body) ≡ c .pages = eqb-true (numberAt 4 s (b .body)) (c .pages) (both-l u v (n .0)) in
+      let y : numberAt 4 s (b .body + 4) ≡ c .shapes = eqb-true (numberAt 4 s (b .body + 4)) (c .shapes) (both-r u v (n .0)) in
+      let z : b .body + 8 ≡ length s = eqb-true (b .body + 8) (length s) (a .0) in (
+        sym (ok-inj (a .1)),
+        record {
+          stands = rw (← k, ← eb, ← el) st;
+          pages-at = rw (← eb) x;
+          shapes-at = rw (← ten) y;
+          last = omega arith;
+        },
+      )
+
+  -- what a block that was found comes to, by its kind
+  kind-step-is : (b : Block) (t : Turn) → Stands s (c .at) (b .kind) (b .body) (b .len) → kindStep s c b ≡ ok t
+      → ((p : PageAt) × (t ≡ page p) × Paged s c p) ⊎ ((t ≡ end) × Ended s c)
+  unfolding kindStep
+  kind-step-is b t st = go (eqb (b .kind) 2) (eqb (b .kind) 3) refl refl
+    where
+      go : (x y : Bool) → eqb (b .kind) 2 ≡ x → eqb (b .kind) 3 ≡ y
+          → cond x (pageStep s c b) (cond y (endStep s c b) (refused (because kind))) ≡ ok t
+          → ((p : PageAt) × (t ≡ page p) × Paged s c p) ⊎ ((t ≡ end) × Ended s c)
+      go true y ex ey e = inl (page-step-is b t (eqb-true (b .kind) 2 ex) st e)
+      go false true ex ey e = inr (end-step-is b t (eqb-true (b .kind) 3 ey) st e)
+      go false false ex ey e = absurd (never e)
+
+  -- what a step comes to, where it is not refused
+  pub step-is : (t : Turn) → stepOf s c ≡ ok t → ((p : PageAt) × (t ≡ page p) × Paged s c p) ⊎ ((t ≡ end) × Ended s c)
+  unfolding stepOf
+  step-is t e =
+      let a = on-ok _ _ t (in-page-ok (c .pages) _ t e) in
+      kind-step-is (a .0) t (block-is s (c .at) (a .0) (a .1)) (a .2)
+
+  pub page-is : (p : PageAt) → stepOf s c ≡ ok (page p) → Paged s c p
+  page-is p e =
+      ⊎-elim
+      (λ (k : (q : PageAt) × (page p ≡ page q) × Paged s c q). subst (Paged s c) (sym (page-inj (k .1))) (k .2))
+      (λ (k : (page p ≡ end) × Ended s c). absurd (page-not-end (k .0)))
+      (step-is (page p) e)
+
+  -- with what its head says of its body
+  pub page-headed : (p : PageAt) → stepOf s c ≡ ok (page p) → Headed (c .edition) (part s (p .body) (p .len)) (p .head)
+  page-headed p e = head-is (c .edition) (part s (p .body) (p .len)) (p .head) (page-is p e .headed)
+
+  pub end-is : stepOf s c ≡ ok end → Ended s c
+  end-is e =
+      ⊎-elim
+      (λ (k : (q : PageAt) × (end ≡ page q) × Paged s c q). absurd (page-not-end (sym (k .1))))
+      (λ (k : (end ≡ end) × Ended s c). k .1)
+      (step-is end e)
+
+  -- and back
+  pub is-page : (p : PageAt) → Paged s c p → stepOf s c ≡ ok (page p)
+  is-page p k =
+      let b : Block = record { kind = 2; body = p .body; len = p .len } in
+      step-found s c b (is-block s (c .at) 2 (p .body) (p .len) (k .stands))
+      ∙ in-page (c .pages) (kindStep s c b) (page p)
+      (kind-page s c b refl
+      ∙ page-good s c b (k .few) (p .head) (k .headed)
+      ∙ ap (λ (n : Cursor). ok (page (record { head = p .head; body = p .body; len = p .len; next = n }))) (sym (k .next)))
+
+  pub is-end : Ended s c → stepOf s c ≡ ok end
+  is-end k =
+      let b : Block = record { kind = 3; body = c .at + 6; len = 8 } in
+      let ten : c .at + 6 + 4 ≡ c .at + 10 = omega arith in
+      let not-two : (_≡_ {A = ℕ} 3 2 → ⊥) = λ q. omega arith in
+      step-found s c b (is-block s (c .at) 3 (c .at + 6) 8 (k .stands))
+      ∙ in-page (c .pages) (kindStep s c b) end
+      (kind-end s c b not-two refl
+      ∙ end-good s c b refl (c .pages) (sym (k .pages-at)) refl (c .shapes) (sym (ap (numberAt 4 s) ten ∙ k .shapes-at)) refl (omega (arith, k .last)))

@@ -1,0 +1,191 @@
+-- Laws of a page's head: one for each way through `headOf`, what a head that was read says, and that this is all. Assumes nothing.
+use Prim.Native.Nat.{ℕ, _+_, _-_, _^_, _≤_, _<_}
+use mathlib.Core.Path.{_≡_, refl, sym, ap, subst, _∙_}
+use mathlib.Core.Bool.{true, false}
+use mathlib.Core.List.{List}
+use native.Mathlib.Omega.{arith}
+use borrow.Author.Tests.{le-leb, lt-leb, eqb-true, eq-eqb, ne-eqb}
+use lib.ListN.{length}
+use Rattle.answer.specs.declared.Refusal.{Refusal}
+use Rattle.answer.specs.Table.{cut, counts, boxForm}
+use Rattle.answer.specs.Refusal.{because}
+use Rattle.answer.specs.Outcome.{refused, ok}
+use Rattle.answer.proofs.Outcomes.{never, ok-inj, refused-inj, met, unmet, need-ok}
+use Rattle.le.specs.Number.{numberAt}
+use Rattle.le.proofs.Numbers.{Bytes, number-at-lt}
+use Rattle.extent.specs.Boxes.{FiniteBox, patterns, goodForm}
+use Rattle.extent.specs.Forms.{floatsOf}
+use Rattle.extent.specs.declared.boxes.Box.{Box}
+use Rattle.extent.specs.declared.boxes.Form.the-variants.{Good}
+use Rattle.extent.proofs.Forms.{Words, floats-patterns}
+use Rattle.frame.specs.declared.layout.Layout.{Layout}
+use Rattle.frame.specs.declared.head.Head.{Head}
+use Rattle.frame.specs.declared.head.HeadRead.{HeadRead}
+use Rattle.frame.specs.declared.head.HeadRead.the-variants as read
+use Rattle.frame.specs.Layout.{layoutOf}
+use Rattle.frame.specs.Head.{countsOk, boundsAt, allZero, boxOk, sizedHead, headOf}
+use Rattle.frame.specs.Said.{saidHead}
+use Rattle.frame.proofs.Layouts.{columns-at, columns-le, sizes-from}
+use Rattle.frame.proofs.Counts.{Limits, counts-limits}
+use Rattle.frame.proofs.Forms.{box-none, box-some, box-finite}
+
+-- ---- the ways through `headOf`
+
+module _ (edition : ℕ) (b : List ℕ) where
+  pub head-short : length b < 38 → headOf edition b ≡ refused (because cut)
+  unfolding headOf
+  head-short h = unmet (because cut) _ (lt-leb 38 (length b) h)
+
+  module _ (g v p : ℕ) (eg : g ≡ numberAt 2 b 0) (ev : v ≡ numberAt 2 b 2) (ep : p ≡ numberAt 2 b 4) (h : 38 ≤ length b) where
+    pub head-counts : countsOk g v p ≡ false → headOf edition b ≡ refused (because counts)
+    unfolding headOf
+    head-counts e = met (because cut) _ (le-leb 38 (length b) h) ∙ unmet (because counts) _ (rw (← eg, ← ev, ← ep) e)
+
+    pub head-sized : countsOk g v p ≡ true → headOf edition b ≡ sizedHead edition b g v p
+    unfolding headOf
+    head-sized e =
+        met (because cut) _ (le-leb 38 (length b) h)
+        ∙ met (because counts) _ (rw (← eg, ← ev, ← ep) e)
+        ∙ rw (eg, ev, ep)
+
+-- ---- and through `sizedHead`
+
+module _ (edition : ℕ) (b : List ℕ) (g v p : ℕ) (l : Layout) (el : layoutOf edition g p ≡ l) where
+  pub sized-short : length b < l .columns → sizedHead edition b g v p ≡ refused (because cut)
+  unfolding sizedHead
+  sized-short h = rw el (unmet (because cut) _ (lt-leb (l .columns) (length b) h))
+
+  module _ (h : l .columns ≤ length b) (cx cy : ℕ) (ex : numberAt 4 b (l .sizes) ≡ cx) (ey : numberAt 4 b (l .sizes + 4) ≡ cy) where
+    pub sized-length : (length b - l .columns ≡ cx + cy → ⊥) → sizedHead edition b g v p ≡ refused (because cut)
+    unfolding sizedHead
+    sized-length n =
+        rw (el, ex, ey)
+        (met (because cut) _ (le-leb (l .columns) (length b) h)
+        ∙ unmet (because cut) _ (ne-eqb (length b) (l .columns + cx + cy) (λ q. n (omega arith))))
+
+    module _ (e : length b ≡ l .columns + cx + cy) where
+      pub sized-box : boxOk v (boundsAt b) ≡ false → sizedHead edition b g v p ≡ refused (because boxForm)
+      unfolding sizedHead
+      sized-box f =
+          rw (el, ex, ey)
+          (met (because cut) _ (le-leb (l .columns) (length b) h)
+          ∙ met (because cut) _ (eq-eqb (length b) (l .columns + cx + cy) e)
+          ∙ unmet (because boxForm) _ f)
+
+      pub sized-good : (box : Box) → boxOk v (boundsAt b) ≡ true → floatsOf (boundsAt b) ≡ box
+          → sizedHead edition b g v p ≡ ok (record { g = g; v = v; p = p; bounds = box; cx = cx; cy = cy; layout = l })
+      unfolding sizedHead
+      sized-good box f eb =
+          rw (el, ex, ey, eb)
+          (met (because cut) _ (le-leb (l .columns) (length b) h)
+          ∙ met (because cut) _ (eq-eqb (length b) (l .columns + cx + cy) e)
+          ∙ met (because boxForm) _ f)
+
+-- ---- what is said
+
+-- an answer is determined by what it says
+pub said-head-one : (x y : HeadRead) → saidHead x ≡ saidHead y → x ≡ y
+unfolding saidHead
+said-head-one (read.Good a) (read.Good b) e = ap read.Good (ok-inj e)
+said-head-one (read.Good a) (read.Refused w) e = absurd (never (sym e))
+said-head-one (read.Refused w) (read.Good b) e = absurd (never e)
+said-head-one (read.Refused w) (read.Refused x) e = ap read.Refused (refused-inj e)
+
+-- what the code read
+module _ (edition : ℕ) (b : List ℕ) (r : HeadRead) where
+  pub head-said : (h : Head) → saidHead r ≡ headOf edition b → r ≡ read.Good h → headOf edition b ≡ ok h
+  unfolding saidHead
+  head-said h f e = sym f ∙ rw e
+
+  pub head-refused : (w : Refusal) → saidHead r ≡ headOf edition b → r ≡ read.Refused w → headOf edition b ≡ refused w
+  unfolding saidHead
+  head-refused w f e = sym f ∙ rw e
+
+-- ---- a head that was read
+
+-- what the head h of a body b says
+pub record Headed (edition : ℕ) (b : List ℕ) (h : Head) : Type 0 where
+  pub shapes-at : h .g ≡ numberAt 2 b 0
+  pub vertices-at : h .v ≡ numberAt 2 b 2
+  pub parts-at : h .p ≡ numberAt 2 b 4
+  pub limits : countsOk (h .g) (h .v) (h .p) ≡ true
+  pub laid : h .layout ≡ layoutOf edition (h .g) (h .p)
+  pub x-at : h .cx ≡ numberAt 4 b (h .layout .sizes)
+  pub y-at : h .cy ≡ numberAt 4 b (h .layout .sizes + 4)
+  pub exact : length b ≡ h .layout .columns + h .cx + h .cy
+  pub form : boxOk (h .v) (boundsAt b) ≡ true
+  pub boxed : h .bounds ≡ floatsOf (boundsAt b)
+
+module _ (edition : ℕ) (b : List ℕ) (h : Head) where
+  -- a head that is read says this
+  pub head-is : headOf edition b ≡ ok h → Headed edition b h
+  unfolding headOf sizedHead
+  head-is e =
+      let a = need-ok _ _ _ h e in
+      let c = need-ok _ _ _ h (a .1) in
+      let d = need-ok _ _ _ h (c .1) in
+      let f = need-ok _ _ _ h (d .1) in
+      let i = need-ok _ _ _ h (f .1) in
+      subst (Headed edition b) (ok-inj (i .1))
+      (record {
+        shapes-at = refl;
+        vertices-at = refl;
+        parts-at = refl;
+        limits = c .0;
+        laid = refl;
+        x-at = refl;
+        y-at = refl;
+        exact = eqb-true _ _ (f .0);
+        form = i .0;
+        boxed = refl;
+      })
+
+  -- and all that says this is read
+  pub is-head : Headed edition b h → headOf edition b ≡ ok h
+  is-head k =
+      let l : 38 ≤ length b = omega (arith, k .exact, ap (λ (x : Layout). x .columns) (k .laid), columns-at edition (h .g) (h .p), sizes-from edition (h .g) (h .p)) in
+      head-sized edition b (h .g) (h .v) (h .p) (k .shapes-at) (k .vertices-at) (k .parts-at) l (k .limits)
+      ∙ sized-good edition b (h .g) (h .v) (h .p) (h .layout) (sym (k .laid)) (omega (arith, k .exact)) (h .cx) (h .cy)
+      (sym (k .x-at)) (sym (k .y-at)) (k .exact) (h .bounds) (k .form) (sym (k .boxed))
+
+  module _ (k : Headed edition b h) where
+    pub head-limits : Limits (h .g) (h .v) (h .p)
+    head-limits = counts-limits (h .g) (h .v) (h .p) (k .limits)
+
+    pub head-finite : FiniteBox (boundsAt b)
+    head-finite = box-finite (h .v) (boundsAt b) (k .form)
+
+    -- with no vertex all zero bytes, else finite and not reversed
+    pub head-zero : h .v ≡ 0 → allZero (boundsAt b) ≡ true
+    head-zero z = sym (box-none (h .v) (boundsAt b) z) ∙ k .form
+
+    pub head-good : (h .v ≡ 0 → ⊥) → goodForm (boundsAt b) ≡ true
+    head-good n = sym (box-some (h .v) (boundsAt b) n) ∙ k .form
+
+    -- the body reaches to the columns
+    pub head-reaches : 46 ≤ length b
+    head-reaches = omega (arith, k .exact, ap (λ (x : Layout). x .columns) (k .laid), columns-at edition (h .g) (h .p), sizes-from edition (h .g) (h .p))
+
+    -- and it is no longer than a block's length may say where the columns are no longer than 2,048 values may be, 1 + 8 * 2048 bytes
+    pub head-long : h .cx ≤ 16385 → h .cy ≤ 16385 → length b < 2 ^ 32
+    head-long x y =
+        omega (
+          arith,
+          k .exact,
+          ap (λ (l : Layout). l .columns) (k .laid),
+          x,
+          y,
+          columns-le edition (h .g) (h .p) (head-limits .few) (omega (arith, head-limits .parts, head-limits .vertices)),
+        )
+
+    -- the box's patterns are those that stand there
+    pub head-patterns : Bytes b → patterns (h .bounds) ≡ boundsAt b
+    head-patterns y = ap patterns (k .boxed) ∙ floats-patterns (boundsAt b) words head-finite
+      where
+        words : Words (boundsAt b)
+        words = unfold boundsAt in record {
+          least-x = number-at-lt 8 b 6 y;
+          least-y = number-at-lt 8 b 14 y;
+          greatest-x = number-at-lt 8 b 22 y;
+          greatest-y = number-at-lt 8 b 30 y;
+        }

@@ -1,0 +1,10 @@
+pub mod Layouts
+pub mod Forms
+pub mod Counts
+pub mod Heads
+pub mod Steps
+pub mod Found
+pub mod Walks
+pub mod Ahead
+pub mod Parts
+pub mod Wholes

@@ -1,0 +1,202 @@
+-- Laws of the walk: one for each way through a turn of it, and what the code keeps from turn to turn. Assumes nothing.
+use Prim.Native.Nat.{ℕ, zero, suc, _+_, _*_, _-_, _≤_, _<_}
+use mathlib.Core.Path.{_≡_, refl, sym, ap, _∙_}
+use mathlib.Core.List.{List, [], _∷_}
+use native.Mathlib.Omega.{arith}
+use lib.ListN.{length}
+use Rattle.answer.specs.declared.Refusal.{Refusal}
+use Rattle.answer.specs.Outcome.{Out, refused, ok, on}
+use Rattle.answer.proofs.Outcomes.{never, ok-inj, refused-inj, on-ok}
+use Rattle.frame.specs.declared.cursor.Cursor.{Cursor}
+use Rattle.frame.specs.declared.cursor.PageAt.{PageAt}
+use Rattle.frame.specs.declared.cursor.Step.{Step}
+use Rattle.frame.specs.declared.cursor.Step.the-variants as step
+use Rattle.frame.specs.declared.walk.FirstRead.{FirstRead}
+use Rattle.frame.specs.declared.walk.FirstRead.the-variants as first
+use Rattle.frame.specs.declared.walk.Framed.{Framed}
+use Rattle.frame.specs.declared.walk.Framed.the-variants as framed
+use Rattle.frame.specs.declared.walk.Totals.{Totals}
+use Rattle.frame.specs.Step.{part, Turn, page, end, firstOf, stepOf}
+use Rattle.frame.specs.Frame.{Page, Frame, pageOf, walk, frameOf, shapesOf, countOf, totalsOf}
+use Rattle.frame.specs.Said.{saidStep, saidFirst, saidFrame}
+use Rattle.frame.proofs.Heads.{head-is, head-limits}
+use Rattle.frame.proofs.Steps.{page-said, end-said, refusal-said, first-said, first-refusal-said}
+use Rattle.frame.proofs.Found.{first-is, Paged, page-is}
+
+-- ---- one turn of the walk
+
+module _ (s : List ℕ) (c : Cursor) (n : ℕ) where
+  pub walk-refused : (w : Refusal) → stepOf s c ≡ refused w → walk (suc n) s c ≡ refused w
+  unfolding walk on
+  walk-refused w e = rw e
+
+  pub walk-end : stepOf s c ≡ ok end → walk (suc n) s c ≡ ok []
+  unfolding walk on
+  walk-end e = rw e
+
+  pub walk-page : (p : PageAt) → stepOf s c ≡ ok (page p) → walk (suc n) s c ≡ on (walk n s (p .next)) (λ ps. ok (pageOf s p ∷ ps))
+  unfolding walk on
+  walk-page p e = rw e
+
+-- ---- what a page that was found does to a cursor's counts
+
+-- a cursor of the walk: at most 1,024 pages, of at most 256 shapes each, lie before it
+pub record Within (c : Cursor) : Type 0 where
+  pub pages : c .pages ≤ 1024
+  pub shapes : c .shapes ≤ 256 * c .pages
+
+module _ (s : List ℕ) (c : Cursor) (w : Within c) (p : PageAt) (k : Paged s c p) where
+  pub pages-on : p .next .pages ≡ c .pages + 1
+  pages-on = ap (λ (x : Cursor). x .pages) (k .next)
+
+  pub shapes-on : p .next .shapes ≡ c .shapes + p .head .g
+  shapes-on = ap (λ (x : Cursor). x .shapes) (k .next)
+
+  pub within-on : Within (p .next)
+  within-on = record {
+    pages = omega (arith, pages-on, k .few);
+    shapes = omega (arith, pages-on, shapes-on, w .shapes, head-limits _ _ _ (head-is (c .edition) (part s (p .body) (p .len)) (p .head) (k .headed)) .few);
+  }
+
+  -- the blocks that may follow are fewer
+  pub fewer-on : 1025 - p .next .pages < 1025 - c .pages
+  fewer-on = omega (arith, pages-on, k .few)
+
+  pub fuel-on : 1025 - p .next .pages ≡ 1024 - c .pages
+  fuel-on = omega (arith, pages-on, k .few)
+
+-- there is a block more
+pub fuel : (c : Cursor) → Within c → 1025 - c .pages ≡ suc (1024 - c .pages)
+fuel c w = omega (arith, w .pages)
+
+-- two walks that agree after a page agree before it
+same-turn : (k m : ℕ) (s : List ℕ) (c : Cursor) → ((p : PageAt) → stepOf s c ≡ ok (page p) → walk k s (p .next) ≡ walk m s (p .next))
+    → walk (suc k) s c ≡ walk (suc m) s c
+same-turn k m s c r = go (stepOf s c) refl
+  where
+    go : (t : Out Turn) → stepOf s c ≡ t → walk (suc k) s c ≡ walk (suc m) s c
+    go (refused v) e = walk-refused s c k v e ∙ sym (walk-refused s c m v e)
+    go (ok end) e = walk-end s c k e ∙ sym (walk-end s c m e)
+    go (ok (page p)) e = walk-page s c k p e ∙ ap (λ (x : Out (List Page)). on x (λ ps. ok (pageOf s p ∷ ps))) (r p e) ∙ sym (walk-page s c m p e)
+
+-- 1,025 blocks are always enough: with more the walk comes to the same
+pub walk-enough : (k n : ℕ) (s : List ℕ) (c : Cursor) → Within c → 1024 - c .pages ≤ k → walk (suc k) s c ≡ walk (suc (k + n)) s c
+walk-enough zero n s c w h = same-turn 0 (0 + n) s c (λ p e. absurd (omega (arith, h, page-is s c p e .few)))
+walk-enough (suc k) n s c w h =
+    same-turn (suc k) (suc k + n) s c (λ p e.
+    let q = page-is s c p e in
+    let m : suc (k + n) ≡ suc k + n = omega arith in
+    walk-enough k n s (p .next) (within-on s c w p q) (omega (arith, h, q .few, pages-on s c w p q)) ∙ ap (λ (i : ℕ). walk i s (p .next)) m)
+
+-- ---- the totals, as they are counted
+
+-- with what lies before the cursor
+abbrev pub countFrom : Cursor → List Page → Totals
+countFrom c ps = record { pages = c .pages + length ps; shapes = c .shapes + shapesOf ps }
+
+pub record Walking (s : List ℕ) (from c : Cursor) : Type 0 where
+  pub within : Within c
+  pub same : on (walk 1025 s from) (λ ps. ok (countOf ps)) ≡ on (walk (1025 - c .pages) s c) (λ ps. ok (countFrom c ps))
+
+-- nothing yet
+count-none : (c : Cursor) (x : Out (List Page)) → c .pages ≡ 0 → c .shapes ≡ 0 → on x (λ ps. ok (countOf ps)) ≡ on x (λ ps. ok (countFrom c ps))
+unfolding on
+count-none c (refused w) a b = refl
+count-none c (ok ps) a b =
+    let m : length ps ≡ c .pages + length ps = omega (arith, a) in
+    let n : shapesOf ps ≡ c .shapes + shapesOf ps = omega (arith, b) in
+    λ i. ok (record { pages = m i; shapes = n i })
+
+pub walking-start : (s : List ℕ) (c : Cursor) → c .pages ≡ 0 → c .shapes ≡ 0 → Walking s c c
+walking-start s c a b =
+    let all : 1025 ≡ 1025 - c .pages = omega (arith, a) in
+    record {
+      within = record { pages = omega arith; shapes = omega arith };
+      same = count-none c (walk 1025 s c) a b ∙ ap (λ (n : ℕ). on (walk n s c) (λ ps. ok (countFrom c ps))) all;
+    }
+
+-- a page more
+count-more : (s : List ℕ) (c : Cursor) (p : PageAt) (x : Out (List Page)) → p .next .pages ≡ c .pages + 1 → p .next .shapes ≡ c .shapes + p .head .g
+    → on (on x (λ ps. ok (pageOf s p ∷ ps))) (λ ps. ok (countFrom c ps)) ≡ on x (λ ps. ok (countFrom (p .next) ps))
+unfolding on shapesOf
+count-more s c p (refused w) a b = refl
+count-more s c p (ok ps) a b =
+    let m : c .pages + suc (length ps) ≡ p .next .pages + length ps = omega (arith, a) in
+    let n : c .shapes + (p .head .g + shapesOf ps) ≡ p .next .shapes + shapesOf ps = omega (arith, b) in
+    λ i. ok (record { pages = m i; shapes = n i })
+
+module _ (s : List ℕ) (from c : Cursor) (w : Walking s from c) (r : Step) (f : saidStep r ≡ stepOf s c) where
+  pub walking-refused : (x : Refusal) → r ≡ step.Refused x → saidFrame (framed.Refused x) ≡ on (walk 1025 s from) (λ ps. ok (countOf ps))
+  unfolding saidFrame on
+  walking-refused x e = sym (w .same ∙ rw (fuel c (w .within), walk-refused s c (1024 - c .pages) x (refusal-said s c r f x e)))
+
+  pub walking-end : r ≡ step.End
+      → saidFrame (framed.Sound (record { pages = c .pages; shapes = c .shapes })) ≡ on (walk 1025 s from) (λ ps. ok (countOf ps))
+  unfolding saidFrame on shapesOf
+  walking-end e =
+      let m : c .pages + 0 ≡ c .pages = omega arith in
+      let n : c .shapes + 0 ≡ c .shapes = omega arith in
+      sym (w .same ∙ rw (fuel c (w .within), walk-end s c (1024 - c .pages) (end-said s c r f e)) (λ i. ok (record { pages = m i; shapes = n i })))
+
+  module _ (p : PageAt) (e : r ≡ step.Page p) where
+    said-page : stepOf s c ≡ ok (page p)
+    said-page = page-said s c r f p e
+
+    pub walking-fewer : 1025 - p .next .pages < 1025 - c .pages
+    walking-fewer = fewer-on s c (w .within) p (page-is s c p said-page)
+
+    pub walking-page : Walking s from (p .next)
+    walking-page =
+        let k = page-is s c p said-page in
+        record {
+          within = within-on s c (w .within) p k;
+          same = w .same
+              ∙ rw (fuel c (w .within), fuel-on s c (w .within) p k, walk-page s c (1024 - c .pages) p said-page)
+              (count-more s c p (walk (1024 - c .pages) s (p .next)) (pages-on s c (w .within) p k) (shapes-on s c (w .within) p k));
+        }
+
+-- ---- the whole frame
+
+module _ (s : List ℕ) (r : FirstRead) (f : saidFirst r ≡ firstOf s) where
+  pub frame-refused : (w : Refusal) → r ≡ first.Refused w → saidFrame (framed.Refused w) ≡ on (frameOf s) (λ f. ok (totalsOf f))
+  unfolding saidFrame frameOf on
+  frame-refused w e = rw (first-refusal-said s r f w e)
+
+  -- the walk starts with no page and no shape
+  pub frame-starts : (c : Cursor) → r ≡ first.After c → (c .pages ≡ 0) × (c .shapes ≡ 0)
+  frame-starts c e =
+      let k = first-is s c (first-said s r f c e) in
+      (ap (λ (x : Cursor). x .pages) (k .after), ap (λ (x : Cursor). x .shapes) (k .after))
+
+  pub frame-walk : (c : Cursor) → r ≡ first.After c → (x : Out Totals) → x ≡ on (walk 1025 s c) (λ ps. ok (countOf ps))
+      → x ≡ on (frameOf s) (λ f. ok (totalsOf f))
+  unfolding frameOf on
+  frame-walk c e x q = q ∙ rw (first-said s r f c e) (joined (walk 1025 s c))
+    where
+      joined : (y : Out (List Page)) → on y (λ ps. ok (countOf ps)) ≡ on (on y (λ ps. ok (record { edition = c .edition; pages = ps }))) (λ f. ok (totalsOf f))
+      joined (refused w) = refl
+      joined (ok ps) = refl
+
+-- what the code was told
+module _ (s : List ℕ) (r : Framed) (q : saidFrame r ≡ on (frameOf s) (λ f. ok (totalsOf f))) where
+  pub sound-said : (t : Totals) → r ≡ framed.Sound t → (f : Frame) × (frameOf s ≡ ok f) × (totalsOf f ≡ t)
+  unfolding saidFrame
+  sound-said t e =
+      let a = on-ok (frameOf s) _ t (sym q ∙ rw e) in
+      (a .0, a .1, ok-inj (a .2))
+
+  pub frame-refusal-said : (w : Refusal) → r ≡ framed.Refused w → frameOf s ≡ refused w
+  unfolding saidFrame on
+  frame-refusal-said w e = go (frameOf s) (sym q ∙ rw e)
+    where
+      go : (x : Out Frame) → on x (λ f. ok (totalsOf f)) ≡ refused w → x ≡ refused w
+      go (refused v) h = ap refused (refused-inj h)
+      go (ok f) h = absurd (never (sym h))
+
+-- an answer is determined by what it says
+pub said-frame-one : (x y : Framed) → saidFrame x ≡ saidFrame y → x ≡ y
+unfolding saidFrame
+said-frame-one (framed.Sound a) (framed.Sound b) e = ap framed.Sound (ok-inj e)
+said-frame-one (framed.Sound a) (framed.Refused w) e = absurd (never (sym e))
+said-frame-one (framed.Refused w) (framed.Sound b) e = absurd (never e)
+said-frame-one (framed.Refused w) (framed.Refused x) e = ap framed.Refused (refused-inj e)

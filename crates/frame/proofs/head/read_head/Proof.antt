@@ -1,0 +1,64 @@
+-- `read_head` says what `headOf` does, by each of its ways. Assumes nothing.
+use mathlib.Core.Path.{sym, _∙_}
+use native.Mathlib.Omega.{arith}
+use borrow.Author.Tests.{not-true, not-false}
+use Rattle.frame.proofs.Counts.{counts-limits}
+use Rattle.frame.proofs.Heads.{head-short, head-counts, head-sized}
+use borrow.Author.Needs.{needs}
+use Rattle.frame.proofs.head.read_head.Statement.{statement}
+use Rattle.frame.proofs.head.read_head.Tie as tie
+
+refused-requires : tie.Need-refused-requires
+refused-requires c κs = search needs
+
+returns : tie.Need-returns
+returns c = c .refused .ensures ∙ sym (head-short _ _ (c .before .if1 .taken))
+
+u16-at-requires : tie.Need-u16-at-requires
+u16-at-requires c κs = search needs
+
+u16-at-requires-2 : tie.Need-u16-at-requires-2
+u16-at-requires-2 c κs = search needs
+
+u16-at-requires-3 : tie.Need-u16-at-requires-3
+u16-at-requires-3 c κs = search needs
+
+counts-ok-requires : tie.Need-counts-ok-requires
+counts-ok-requires c κs = search needs
+
+refused-requires-2 : tie.Need-refused-requires-2
+refused-requires-2 c κs = search needs
+
+returns-2 : tie.Need-returns-2
+returns-2 c =
+    let d = c .before .before .before in
+    c .refused2 .ensures
+    ∙ sym (head-counts _ _ _ _ _ (d .before .before .u16-at .ensures .0) (d .before .u16-at2 .ensures .0) (d .u16-at3 .ensures .0) (d .before .before .before .if1 .left)
+    (sym (c .before .before .counts-ok .ensures) ∙ not-true _ (c .before .if2 .taken)))
+
+sized-head-requires : tie.Need-sized-head-requires
+sized-head-requires c κs =
+    let l = counts-limits _ _ _ (sym (c .before .counts-ok .ensures) ∙ not-false _ (c .if2 .left)) in
+    (c .before .before .before .before .before .if1 .left, l .few, omega (arith, l .parts, l .vertices))
+
+returns-3 : tie.Need-returns-3
+returns-3 c =
+    let d = c .before .before .before in
+    c .sized-head .ensures
+    ∙ sym (head-sized _ _ _ _ _ (d .before .before .u16-at .ensures .0) (d .before .u16-at2 .ensures .0) (d .u16-at3 .ensures .0) (d .before .before .before .if1 .left)
+    (sym (c .before .before .counts-ok .ensures) ∙ not-false _ (c .before .if2 .left)))
+
+pub read-head-spec : {M : Type 1} → statement M
+read-head-spec =
+    tie.close
+    (tie.spec
+    refused-requires
+    returns
+    u16-at-requires
+    u16-at-requires-2
+    u16-at-requires-3
+    counts-ok-requires
+    refused-requires-2
+    returns-2
+    sized-head-requires
+    returns-3)

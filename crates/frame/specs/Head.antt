@@ -1,0 +1,58 @@
+-- The head of a page, as its body says it: "at least 38 bytes (4), counts (6), exact length (4), box form (7)". No page number is set here.
+-- Assumes nothing.
+use Prim.Native.Nat.{ℕ, _+_}
+use mathlib.Core.Bool.{Bool, _&&_, _||_, cond}
+use mathlib.Core.List.{List}
+use lib.ListN.{length}
+use lib.Dec.{leb, eqb}
+use Rattle.answer.specs.Table.{cut, counts, boxForm}
+use Rattle.answer.specs.Refusal.{because}
+use Rattle.answer.specs.Outcome.{Out, ok, need}
+use Rattle.le.specs.Number.{numberAt}
+use Rattle.extent.specs.declared.boxes.Form.{Form}
+use Rattle.extent.specs.declared.boxes.Form.the-variants.{Good, Bad}
+use Rattle.extent.specs.Boxes.{Bounds, goodForm}
+use Rattle.extent.specs.Forms.{floatsOf}
+use Rattle.frame.specs.declared.head.Head.{Head}
+use Rattle.frame.specs.Layout.{layoutOf}
+
+-- the limits: 1 to 256 shapes, at most 2,048 vertices, p ≤ v, and p = 0 only if v = 0
+unfoldable pub countsOk : ℕ → ℕ → ℕ → Bool
+countsOk g v p = leb 1 g && leb g 256 && leb v 2048 && leb p v && (leb 1 p || eqb v 0)
+
+-- the four patterns of the box
+unfoldable pub boundsAt : List ℕ → Bounds
+boundsAt b = record { least-x = numberAt 8 b 6; least-y = numberAt 8 b 14; greatest-x = numberAt 8 b 22; greatest-y = numberAt 8 b 30 }
+
+-- all zero bytes
+unfoldable pub allZero : Bounds → Bool
+allZero p = eqb (p .least-x) 0 && eqb (p .least-y) 0 && eqb (p .greatest-x) 0 && eqb (p .greatest-y) 0
+
+-- the form of a box of v vertices: all zero bytes if v = 0, else finite and not reversed
+unfoldable pub boxOk : ℕ → Bounds → Bool
+boxOk v p = cond (eqb v 0) (allZero p) (goodForm p)
+
+-- the box itself, if its form is that
+unfoldable pub formIn : ℕ → Bounds → Form
+formIn v p = cond (boxOk v p) (Good (floatsOf p)) Bad
+
+-- the head of a body whose counts are g, v and p: the body reaches past cx and cy, its length is exact, its box is of good form
+unfoldable pub sizedHead : ℕ → List ℕ → ℕ → ℕ → ℕ → Out Head
+sizedHead edition b g v p =
+    let l = layoutOf edition g p in
+    need (leb (l .columns) (length b)) (because cut)
+    (let cx = numberAt 4 b (l .sizes) in
+    let cy = numberAt 4 b (l .sizes + 4) in
+    need (eqb (length b) (l .columns + cx + cy)) (because cut)
+    (need (boxOk v (boundsAt b)) (because boxForm)
+    (ok (record { g = g; v = v; p = p; bounds = floatsOf (boundsAt b); cx = cx; cy = cy; layout = l }))))
+
+-- the head of a body
+unfoldable pub headOf : ℕ → List ℕ → Out Head
+headOf edition b =
+    need (leb 38 (length b)) (because cut)
+    (let g = numberAt 2 b 0 in
+    let v = numberAt 2 b 2 in
+    let p = numberAt 2 b 4 in
+    need (countsOk g v p) (because counts)
+    (sizedHead edition b g v p))

@@ -1,0 +1,6 @@
+pub mod Layout
+pub mod Head
+pub mod Step
+pub mod Frame
+pub mod Said
+pub mod Whole

@@ -1,0 +1,71 @@
+-- A file block by block: the first block, and what stands at a cursor after it. "Six bytes and the body present (4), kind (5), then for the
+-- first block length 2 (4), edition (5); for a page 3, at least 38 bytes (4), counts (6), exact length (4), box form (7); for the end block
+-- length 8 (4), counts (6), nothing after (4)." Assumes nothing.
+use Prim.Native.Nat.{ℕ, _+_}
+use mathlib.Core.Bool.{_&&_, cond}
+use mathlib.Core.List.{List}
+use lib.ListN.{length, take, drop}
+use lib.Dec.{ltb, eqb}
+use Rattle.answer.specs.Table.{many, cut, kind, counts}
+use Rattle.answer.specs.Refusal.{because}
+use Rattle.answer.specs.Outcome.{Out, refused, ok, need, on, inPage}
+use Rattle.le.specs.Number.{numberAt}
+use Rattle.le.specs.Block.{blockAt}
+use Rattle.le.specs.declared.block.Block.{Block}
+use Rattle.frame.specs.declared.head.Head.{Head}
+use Rattle.frame.specs.declared.cursor.Cursor.{Cursor}
+use Rattle.frame.specs.declared.cursor.PageAt.{PageAt}
+use Rattle.frame.specs.Head.{headOf}
+
+-- the len bytes from a place on
+abbrev pub part : List ℕ → ℕ → ℕ → List ℕ
+part s at len = take len (drop at s)
+
+-- ---- the first block
+
+-- a block that was found, as the first: kind 1, length 2, edition 1
+unfoldable pub firstStep : List ℕ → Block → Out Cursor
+firstStep s b =
+    need (eqb (b .kind) 1) (because kind)
+    (need (eqb (b .len) 2) (because cut)
+    (let edition = numberAt 2 s (b .body) in
+    need (eqb edition 1) (because kind)
+    (ok (record { edition = edition; at = b .body + 2; pages = 0; shapes = 0 }))))
+
+-- the cursor after the first block
+unfoldable pub firstOf : List ℕ → Out Cursor
+firstOf s = on (blockAt s 0) (firstStep s)
+
+-- ---- a block after it
+
+-- a page, or the end
+pub data Turn : Type 0 where
+  page : PageAt → Turn
+  end : Turn
+
+-- the cursor after a page
+abbrev pub past : Cursor → Block → Head → Cursor
+past c b h = record { edition = c .edition; at = b .body + b .len; pages = c .pages + 1; shapes = c .shapes + h .g }
+
+-- kind 2, a page: no 1,025th, and then its head
+unfoldable pub pageStep : List ℕ → Cursor → Block → Out Turn
+pageStep s c b =
+    need (ltb (c .pages) 1024) (because many)
+    (on (headOf (c .edition) (part s (b .body) (b .len))) (λ h.
+    ok (page (record { head = h; body = b .body; len = b .len; next = past c b h }))))
+
+-- kind 3, the end: length 8, both counts, nothing after
+unfoldable pub endStep : List ℕ → Cursor → Block → Out Turn
+endStep s c b =
+    need (eqb (b .len) 8) (because cut)
+    (need (eqb (numberAt 4 s (b .body)) (c .pages) && eqb (numberAt 4 s (b .body + 4)) (c .shapes)) (because counts)
+    (need (eqb (b .body + 8) (length s)) (because cut)
+    (ok end)))
+
+-- by its kind
+unfoldable pub kindStep : List ℕ → Cursor → Block → Out Turn
+kindStep s c b = cond (eqb (b .kind) 2) (pageStep s c b) (cond (eqb (b .kind) 3) (endStep s c b) (refused (because kind)))
+
+-- what stands at a cursor. A refusal's page is the number of page blocks passed before it, and is set here alone
+unfoldable pub stepOf : List ℕ → Cursor → Out Turn
+stepOf s c = inPage (c .pages) (on (blockAt s (c .at)) (kindStep s c))

@@ -1,0 +1,112 @@
+// The walk over a file: the first block, then step by step to the end.
+ghost use mathlib.Core.Path.{_≡_};
+ghost use Prim.Native.Nat.{_+_, _≤_};
+ghost use lib.ListN.{length};
+ghost use Rattle.answer.specs.Outcome.{on, ok, refused};
+ghost use Rattle.answer.specs.Refusal.{because};
+ghost use Rattle.frame.specs.Step.{firstStep, firstOf};
+ghost use Rattle.frame.specs.Frame.{walk, countOf, frameOf, totalsOf};
+ghost use Rattle.frame.specs.Said.{saidFirst, saidFrame};
+use crate::cursor::Cursor;
+use crate::cursor::Step;
+use crate::step::step;
+use answer::Refusal;
+use le::block::Block;
+use le::block::BlockRead;
+use le::block::block_at;
+use le::number::u16_at;
+
+// The cursor after the first block, or the refusal.
+pub enum FirstRead {
+    After(Cursor),
+    Refused(Refusal),
+}
+
+// How many pages and shapes a file has.
+pub struct Totals {
+    pub pages: usize,
+    pub shapes: usize,
+}
+
+// The totals of a file whose frame is sound, or the refusal.
+pub enum Framed {
+    Sound(Totals),
+    Refused(Refusal),
+}
+
+// Refused by a number.
+fn refused(number: u8) -> FirstRead
+    ensures { λ r. ⌜ saidFirst r ≡ refused (because number) ⌝ }
+{
+    FirstRead::Refused(Refusal::because(number))
+}
+
+// The first block, once it is found.
+fn first_step(s: &[u8], b: Block) -> FirstRead
+    requires { ⌜ b .body + b .len ≤ length (now s) ⌝ }
+    ensures { λ r. ⌜ saidFirst r ≡ firstStep (now (s .entry)) b ⌝ }
+{
+    let kind = b.kind;
+    let body = b.body;
+    let len = b.len;
+    if kind != 1 {
+        return refused(answer::table::KIND);
+    }
+    if len != 2 {
+        return refused(answer::table::LENGTH);
+    }
+    let edition = u16_at(s, body);
+    if edition != 1 {
+        return refused(answer::table::KIND);
+    }
+    FirstRead::After(Cursor {
+        edition,
+        at: body + 2,
+        pages: 0,
+        shapes: 0,
+    })
+}
+
+// The first block of a file, any bytes.
+pub fn first(s: &[u8]) -> FirstRead
+    ensures { λ r. ⌜ saidFirst r ≡ firstOf (now (s .entry)) ⌝ }
+{
+    match block_at(s, 0) {
+        BlockRead::Refused(w) => FirstRead::Refused(w),
+        BlockRead::Found(b) => first_step(s, b),
+    }
+}
+
+// The walk from a cursor to the end.
+fn walk_from(s: &[u8], from: Cursor) -> Framed
+    requires { ⌜ (from .pages ≡ 0) × (from .shapes ≡ 0) ⌝ }
+    ensures { λ r. ⌜ saidFrame r ≡ on (walk 1025 (now (s .entry)) from) (λ ps. ok (countOf ps)) ⌝ }
+{
+    let mut c = from;
+    loop {
+        match step(s, c) {
+            Step::Page(p) => {
+                c = p.next;
+            }
+            Step::End => {
+                return Framed::Sound(Totals {
+                    pages: c.pages,
+                    shapes: c.shapes,
+                });
+            }
+            Step::Refused(w) => {
+                return Framed::Refused(w);
+            }
+        }
+    }
+}
+
+// The frame of a file, any bytes.
+pub fn frame(s: &[u8]) -> Framed
+    ensures { λ r. ⌜ saidFrame r ≡ on (frameOf (now (s .entry))) (λ f. ok (totalsOf f)) ⌝ }
+{
+    match first(s) {
+        FirstRead::Refused(w) => Framed::Refused(w),
+        FirstRead::After(c) => walk_from(s, c),
+    }
+}

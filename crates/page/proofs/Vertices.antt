@@ -1,0 +1,52 @@
+-- The two columns of a page, by the ways through them. Assumes nothing.
+use Prim.Native.Nat.{ℕ, _+_, _-_}
+use mathlib.Core.Path.{_≡_, refl, sym, ap, ap₂, _∙_}
+use mathlib.Core.List.{List}
+use native.Mathlib.Omega.{arith}
+use lib.ListN.{length, take, drop}
+use Rattle.answer.specs.Outcome.{Out, refused, ok, on}
+use Rattle.answer.specs.Rule.{judged, passed}
+use Rattle.answer.specs.declared.Refusal.{Refusal}
+use Rattle.answer.specs.declared.Verdict.{Verdict}
+use Rattle.answer.specs.declared.Verdict.the-variants.{Holds, Refused}
+use Rattle.answer.proofs.Rules.{passed-ok, passed-refused, refused-passed, passed-on}
+use Rattle.column.specs.Read.{decodeOf}
+use Rattle.frame.specs.declared.head.Head.{Head}
+use Rattle.page.specs.Given.{Given}
+use Rattle.page.specs.Contents.{xPart, yPart, Vertices, verticesOf}
+use Rattle.page.specs.Loaded.{Columns}
+
+-- the parts, as the code cuts them
+pub x-part : (h : Head) (b : List ℕ) (x y : ℕ) → x ≡ h .layout .columns → y ≡ x + h .cx → take (y - x) (drop x b) ≡ xPart h b
+unfolding xPart
+x-part h b x y d e =
+    let z : y - x ≡ h .cx = omega arith in
+    ap₂ (λ (n at : ℕ). take n (drop at b)) z d
+
+pub y-part : (h : Head) (b : List ℕ) (y end : ℕ) → y ≡ h .layout .columns + h .cx → end ≡ y + h .cy → take (end - y) (drop y b) ≡ yPart h b
+unfolding yPart
+y-part h b y end d e =
+    let z : end - y ≡ h .cy = omega arith in
+    ap₂ (λ (n at : ℕ). take n (drop at b)) z d
+
+module _ (h : Head) (b xs ys s : List ℕ) (n : ℕ) (e : s ≡ xPart h b) (l : n ≡ h .v) where
+  -- the x column is refused
+  pub columns-refused : (w : Refusal) → Given (decodeOf 64 s n) (Refused w) xs → Columns h b (Refused w) xs ys
+  unfolding verticesOf on
+  columns-refused w g =
+      let o : decodeOf 64 (xPart h b) (h .v) ≡ refused w = ap₂ (decodeOf 64) (sym e) (sym l) ∙ refused-passed _ w (g .verdict) in
+      let r : verticesOf h b ≡ refused w = rw o in
+      record { verdict = passed-refused w r; vertices = λ q. absurd (let y : _≡_ {A = ℕ} 0 1 = cc in omega arith) }
+
+  -- the x column is read, and the y column is what it is
+  pub columns-both : (t : List ℕ) (m : ℕ) (r : Verdict) → t ≡ yPart h b → m ≡ h .v → Given (decodeOf 64 s n) Holds xs → Given (decodeOf 64 t m) r ys
+      → Columns h b r xs ys
+  unfolding verticesOf on
+  columns-both t m r f k g u =
+      let first : decodeOf 64 (xPart h b) (h .v) ≡ ok xs = ap₂ (decodeOf 64) (sym e) (sym l) ∙ g .value refl in
+      let second : decodeOf 64 (yPart h b) (h .v) ≡ decodeOf 64 t m = ap₂ (decodeOf 64) (sym f) (sym k) in
+      let whole : verticesOf h b ≡ on (decodeOf 64 t m) (λ l. ok (record { xs = xs; ys = l })) = rw (first, second) in
+      record {
+        verdict = u .verdict ∙ sym (passed-on (decodeOf 64 t m) (λ l. record { xs = xs; ys = l })) ∙ ap passed (sym whole);
+        vertices = λ q. whole ∙ rw (u .value q);
+      }

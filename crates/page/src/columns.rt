@@ -1,0 +1,36 @@
+// A page's columns, read as the parts of the body that hold them.
+ghost use mathlib.Core.Path.{_≡_};
+ghost use Prim.Native.Nat.{_+_, _≤_};
+ghost use lib.ListN.{length};
+ghost use Rattle.column.specs.Read.{decodeOf};
+ghost use Rattle.page.specs.Given.{Given};
+ghost use Rattle.page.specs.Loaded.{Columns};
+use answer::Filled;
+use answer::Verdict;
+use frame::head::Head;
+
+// As many values of a column as the scratch holds.
+pub fn column_into(s: &[u8], out: &mut [u64]) -> Verdict
+    requires { ⌜ length (now out) ≤ 2048 ⌝ }
+    ensures { λ r. ⌜ Given (decodeOf 64 (now (s .entry)) (length (now (out .entry)))) r (now (out .exit)) ⌝ }
+{
+    let n = out.len();
+    match column::read::decode(s, n, out) {
+        Filled::Start(_) => Verdict::Holds,
+        Filled::Refused(w) => Verdict::Refused(w),
+    }
+}
+
+// The x column and the y column of a page, each as the part of the body that holds it.
+pub fn columns(b: &[u8], h: Head, xs: &mut [u64], ys: &mut [u64]) -> Verdict
+    requires { ⌜ (length (now b) ≡ h .layout .columns + h .cx + h .cy) × (h .v ≤ 2048) × (length (now xs) ≡ h .v) × (length (now ys) ≡ h .v) ⌝ }
+    ensures { λ r. ⌜ Columns h (now (b .entry)) r (now (xs .exit)) (now (ys .exit)) ⌝ }
+{
+    let x = h.layout.columns;
+    let y = x + h.cx;
+    let end = y + h.cy;
+    if let Verdict::Refused(w) = column_into(&b[x..y], xs) {
+        return Verdict::Refused(w);
+    }
+    column_into(&b[y..end], ys)
+}

@@ -1,0 +1,80 @@
+-- Laws of the three rules that go shape by shape. Assumes nothing.
+use mathlib.Core.Path.{_≡_, refl, sym, ap, _∙_}
+use mathlib.Core.Bool.{Bool, true, _&&_}
+use mathlib.Core.List.{List, [], _∷_}
+use Prim.Native.Nat.{ℕ, _≤_}
+use native.Mathlib.Omega.{arith}
+use borrow.Author.Tests.{le-leb, leb-true}
+use lib.Dec.{leb}
+use lib.ListN.{length, take, drop, length-take, length-drop}
+use Rattle.answer.specs.Table as table
+use Rattle.answer.specs.Rule.{rule}
+use Rattle.types.specs.Every.{allOf}
+use Rattle.types.specs.Parts.{total}
+use Rattle.types.proofs.Both.{both, both-l, both-r}
+use Rattle.types.proofs.Alls.{all-none, all-cons}
+use Rattle.shape.specs.declared.one.Which.{Which}
+use Rattle.shape.specs.declared.one.Which.the-variants.{Ring, Grid, Turn}
+use Rattle.shape.specs.Outline.{Outline, verticesOf, outlineWith, outlinesOf}
+use Rattle.shape.specs.Rules.{ringsClosed, ringRule, onGridShape, gridRule, turnsHold, turnRule}
+use Rattle.shape.specs.Which.{testOf, readyFor}
+
+-- what each tests
+module _ (w : Which) (o : Outline) where
+  pub test-ring : w ≡ Ring → testOf w o ≡ ringsClosed o
+  unfolding testOf
+  test-ring e = ap (λ (v : Which). testOf v o) e
+
+  pub test-grid : w ≡ Grid → testOf w o ≡ onGridShape o
+  unfolding testOf
+  test-grid e = ap (λ (v : Which). testOf v o) e
+
+  pub test-turn : w ≡ Turn → testOf w o ≡ turnsHold o
+  unfolding testOf
+  test-turn e = ap (λ (v : Which). testOf v o) e
+
+  -- what is known before the turns
+  pub ready-turn : w ≡ Turn → readyFor w o ≡ true → (length (o .xs) ≤ 2048) × (onGridShape o ≡ true)
+  unfolding readyFor
+  ready-turn e r =
+      let b = sym (ap (λ (v : Which). readyFor v o) e) ∙ r in
+      (leb-true (length (o .xs)) 2048 (both-r (onGridShape o) (leb (length (o .xs)) 2048) b), both-l (onGridShape o) (leb (length (o .xs)) 2048) b)
+
+-- nothing must have passed before the rings, nor before the grid
+pub ready-ring : (os : List Outline) → allOf (readyFor Ring) os ≡ true
+unfolding allOf readyFor
+ready-ring [] = refl
+ready-ring (o ∷ os) = ready-ring os
+
+pub ready-grid : (os : List Outline) → allOf (readyFor Grid) os ≡ true
+unfolding allOf readyFor
+ready-grid [] = refl
+ready-grid (o ∷ os) = ready-grid os
+
+-- of a page that is on grid and not over 2,048 vertices, each shape is ready for the turns
+pub ready-turns : (types counts lens xs ys : List ℕ) → length xs ≤ 2048 → allOf onGridShape (outlinesOf types counts lens xs ys) ≡ true
+    → allOf (readyFor Turn) (outlinesOf types counts lens xs ys) ≡ true
+unfolding outlinesOf allOf readyFor
+ready-turns [] cs lens xs ys h e = refl
+ready-turns (t ∷ ts) [] lens xs ys h e = refl
+ready-turns (t ∷ ts) (c ∷ cs) lens xs ys h e =
+    let n = verticesOf c lens in
+    let o = outlineWith t (take c lens) (take n xs) (take n ys) in
+    let os = outlinesOf ts cs (drop c lens) (drop n xs) (drop n ys) in
+    let few = le-leb (length (take n xs)) 2048 (omega (arith, length-take n xs)) in
+    both (onGridShape o && leb (length (take n xs)) 2048) (allOf (readyFor Turn) os) (both (onGridShape o) (leb (length (take n xs)) 2048) (both-l (onGridShape o) (allOf onGridShape os) e) few)
+    (ready-turns ts cs (drop c lens) (drop n xs) (drop n ys) (omega (arith, length-drop n xs)) (both-r (onGridShape o) (allOf onGridShape os) e))
+
+-- ---- the verdicts
+
+pub verdict-ring : (os : List Outline) (b : Bool) → b ≡ allOf (testOf Ring) os → rule b table.ring ≡ ringRule os
+unfolding testOf ringRule
+verdict-ring os b e = ap (λ (t : Bool). rule t table.ring) e
+
+pub verdict-grid : (os : List Outline) (b : Bool) → b ≡ allOf (testOf Grid) os → rule b table.grid ≡ gridRule os
+unfolding testOf gridRule
+verdict-grid os b e = ap (λ (t : Bool). rule t table.grid) e
+
+pub verdict-turn : (os : List Outline) (b : Bool) → b ≡ allOf (testOf Turn) os → rule b table.turn ≡ turnRule os
+unfolding testOf turnRule
+verdict-turn os b e = ap (λ (t : Bool). rule t table.turn) e

@@ -1,0 +1,30 @@
+-- `shape::one::rings_closed` tests the parts where those of the type are closed. Assumes nothing.
+use mathlib.Core.Path.{sym, ap, _∙_}
+use mathlib.Core.Bool.{Bool}
+use Rattle.types.specs.declared.rows.Row.{Row}
+use Rattle.shape.specs.Rules.{ringsClosed}
+use Rattle.shape.proofs.OnlyIf.{skipped, decides}
+use borrow.Author.Needs.{needs}
+use Rattle.shape.proofs.one.rings_closed.Statement.{statement}
+use Rattle.shape.proofs.one.rings_closed.Tie as tie
+use Rattle.shape.proofs.one.rings_closed.Reads as reads
+use Rattle.shape.proofs.one.rings_closed.Lts as lts
+use Rattle.shape.proofs.one.all_closed.Reads as all-closed-reads
+use Rattle.types.proofs.rows.row_of.Reads as row-of-reads
+
+row-of-requires : tie.Need-row-of-requires
+row-of-requires c κs = search needs
+
+all-closed-requires : tie.Need-all-closed-requires
+all-closed-requires c κs = search needs
+
+returns : tie.Need-returns
+unfolding ringsClosed
+returns c = decides _ _ _ (sym (ap (λ (r : Row). r .closed) (c .before .before .row-of .ensures)) ∙ c .before .if1 .taken) (c .all-closed .ensures)
+
+returns-2 : tie.Need-returns-2
+unfolding ringsClosed
+returns-2 c = skipped _ _ (sym (ap (λ (r : Row). r .closed) (c .before .row-of .ensures)) ∙ c .if1 .left)
+
+pub rings-closed-spec : {M : Type 1} → statement M
+rings-closed-spec = tie.close (tie.spec row-of-requires all-closed-requires returns returns-2)

@@ -1,0 +1,26 @@
+-- `shape::rules::box_rule` gives the verdict of rule 16. Assumes nothing.
+use mathlib.Core.Path.{ap, _∙_}
+use mathlib.Core.Bool.{Bool}
+use Rattle.answer.specs.Table as table
+use Rattle.answer.specs.Rule.{rule}
+use Rattle.shape.specs.Rules.{boxRule}
+use borrow.Author.Needs.{needs}
+use Rattle.shape.proofs.rules.box_rule.Statement.{statement}
+use Rattle.shape.proofs.rules.box_rule.Tie as tie
+use Rattle.shape.proofs.rules.box_rule.Reads as reads
+use Rattle.shape.proofs.rules.box_rule.Lts as lts
+use Rattle.answer.proofs.Verdict.of.Reads as of-reads
+use Rattle.shape.proofs.rules.box_holds.Reads as box-holds-reads
+
+box-holds-requires : tie.Need-box-holds-requires
+box-holds-requires c κs = search needs
+
+of-requires : tie.Need-of-requires
+of-requires c κs = search needs
+
+returns : tie.Need-returns
+unfolding boxRule
+returns c = c .of .ensures ∙ ap (λ (t : Bool). rule t table.boxValue) (c .before .box-holds .ensures)
+
+pub box-rule-spec : {M : Type 1} → statement M
+box-rule-spec = tie.close (tie.spec box-holds-requires of-requires returns)

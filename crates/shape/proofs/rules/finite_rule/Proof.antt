@@ -1,0 +1,26 @@
+-- `shape::rules::finite_rule` gives the verdict of rule 12. Assumes nothing.
+use mathlib.Core.Path.{ap, _∙_}
+use mathlib.Core.Bool.{Bool}
+use Rattle.answer.specs.Table as table
+use Rattle.answer.specs.Rule.{rule}
+use Rattle.shape.specs.Rules.{finiteRule}
+use borrow.Author.Needs.{needs}
+use Rattle.shape.proofs.rules.finite_rule.Statement.{statement}
+use Rattle.shape.proofs.rules.finite_rule.Tie as tie
+use Rattle.shape.proofs.rules.finite_rule.Reads as reads
+use Rattle.shape.proofs.rules.finite_rule.Lts as lts
+use Rattle.answer.proofs.Verdict.of.Reads as of-reads
+use Rattle.shape.proofs.rules.both_finite.Reads as both-finite-reads
+
+both-finite-requires : tie.Need-both-finite-requires
+both-finite-requires c κs = search needs
+
+of-requires : tie.Need-of-requires
+of-requires c κs = search needs
+
+returns : tie.Need-returns
+unfolding finiteRule
+returns c = c .of .ensures ∙ ap (λ (t : Bool). rule t table.finite) (c .before .both-finite .ensures)
+
+pub finite-rule-spec : {M : Type 1} → statement M
+finite-rule-spec = tie.close (tie.spec both-finite-requires of-requires returns)

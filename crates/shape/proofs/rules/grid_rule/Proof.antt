@@ -1,0 +1,22 @@
+-- `shape::rules::grid_rule` gives the verdict of rule 14. Assumes nothing.
+use mathlib.Core.Path.{_∙_}
+use Rattle.shape.proofs.Whiches.{ready-grid, verdict-grid}
+use borrow.Author.Needs.{needs}
+use Rattle.shape.proofs.rules.grid_rule.Statement.{statement}
+use Rattle.shape.proofs.rules.grid_rule.Tie as tie
+use Rattle.shape.proofs.rules.grid_rule.Reads as reads
+use Rattle.shape.proofs.rules.grid_rule.Lts as lts
+use Rattle.answer.proofs.Verdict.of.Reads as of-reads
+use Rattle.shape.proofs.rules.each_shape.Reads as each-shape-reads
+
+each-shape-requires : tie.Need-each-shape-requires
+each-shape-requires c κs = (c .before .before .before .before .before .pre .0, c .before .before .before .before .before .pre .1, ready-grid _)
+
+of-requires : tie.Need-of-requires
+of-requires c κs = search needs
+
+returns : tie.Need-returns
+returns c = c .of .ensures ∙ verdict-grid _ _ (c .before .each-shape .ensures)
+
+pub grid-rule-spec : {M : Type 1} → statement M
+grid-rule-spec = tie.close (tie.spec each-shape-requires of-requires returns)

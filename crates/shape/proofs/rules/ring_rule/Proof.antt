@@ -1,0 +1,22 @@
+-- `shape::rules::ring_rule` gives the verdict of rule 13. Assumes nothing.
+use mathlib.Core.Path.{_∙_}
+use Rattle.shape.proofs.Whiches.{ready-ring, verdict-ring}
+use borrow.Author.Needs.{needs}
+use Rattle.shape.proofs.rules.ring_rule.Statement.{statement}
+use Rattle.shape.proofs.rules.ring_rule.Tie as tie
+use Rattle.shape.proofs.rules.ring_rule.Reads as reads
+use Rattle.shape.proofs.rules.ring_rule.Lts as lts
+use Rattle.answer.proofs.Verdict.of.Reads as of-reads
+use Rattle.shape.proofs.rules.each_shape.Reads as each-shape-reads
+
+each-shape-requires : tie.Need-each-shape-requires
+each-shape-requires c κs = (c .before .before .before .before .before .pre .0, c .before .before .before .before .before .pre .1, ready-ring _)
+
+of-requires : tie.Need-of-requires
+of-requires c κs = search needs
+
+returns : tie.Need-returns
+returns c = c .of .ensures ∙ verdict-ring _ _ (c .before .each-shape .ensures)
+
+pub ring-rule-spec : {M : Type 1} → statement M
+ring-rule-spec = tie.close (tie.spec each-shape-requires of-requires returns)

@@ -1,0 +1,22 @@
+-- `shape::rules::turn_rule` gives the verdict of rule 15. Assumes nothing.
+use mathlib.Core.Path.{_∙_}
+use Rattle.shape.proofs.Whiches.{ready-turns, verdict-turn}
+use borrow.Author.Needs.{needs}
+use Rattle.shape.proofs.rules.turn_rule.Statement.{statement}
+use Rattle.shape.proofs.rules.turn_rule.Tie as tie
+use Rattle.shape.proofs.rules.turn_rule.Reads as reads
+use Rattle.shape.proofs.rules.turn_rule.Lts as lts
+use Rattle.answer.proofs.Verdict.of.Reads as of-reads
+use Rattle.shape.proofs.rules.each_shape.Reads as each-shape-reads
+
+each-shape-requires : tie.Need-each-shape-requires
+each-shape-requires c κs = let p = c .before .before .before .before .before .pre in (p .0, p .1, ready-turns _ _ _ _ _ (p .2) (p .3))
+
+of-requires : tie.Need-of-requires
+of-requires c κs = search needs
+
+returns : tie.Need-returns
+returns c = c .of .ensures ∙ verdict-turn _ _ (c .before .each-shape .ensures)
+
+pub turn-rule-spec : {M : Type 1} → statement M
+turn-rule-spec = tie.close (tie.spec each-shape-requires of-requires returns)

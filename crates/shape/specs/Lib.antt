@@ -1,0 +1,5 @@
+pub mod Outline
+pub mod Rules
+pub mod Ready
+pub mod Which
+pub mod Polygons

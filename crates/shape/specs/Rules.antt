@@ -1,0 +1,88 @@
+-- Rules 12 to 16 of a page's contents, each over all of its shapes. Assumes nothing.
+use Prim.Native.Nat.{ℕ, _-_}
+use mathlib.Core.Bool.{Bool, true, _&&_, _||_, not}
+use mathlib.Core.List.{List, [], _∷_}
+use lib.Dec.{ltb, eqb}
+use lib.IntN.{ℤ}
+use lib.ListN.{length, getD}
+use Rattle.answer.specs.Table as table
+use Rattle.answer.specs.Outcome.{Out}
+use Rattle.answer.specs.Rule.{rule}
+use Rattle.types.specs.Every.{allOf}
+use Rattle.types.specs.Types.{rowOf}
+use Rattle.extent.specs.Rank.{allFinite}
+use Rattle.extent.specs.Boxes.{Bounds, boxOf, sameBox}
+use Rattle.grid.specs.Grid.{allOnGrid}
+use Rattle.grid.specs.Turn.{turnOf, clockwise, zeroTurn}
+use Rattle.shape.specs.Outline.{Outline, Part, partsOf}
+
+-- the parts of a shape
+abbrev pub ownParts : Outline → List Part
+ownParts o = partsOf (o .lens) (o .xs) (o .ys)
+
+-- ---- 12: all coordinates are finite
+
+unfoldable pub finiteRule : List ℕ → List ℕ → Out (Unit {0})
+finiteRule xs ys = rule (allFinite xs && allFinite ys) table.finite
+
+-- ---- 13: rings are closed
+
+-- the first and the last of a list are the same
+unfoldable pub endsMeet : List ℕ → Bool
+endsMeet l = eqb (getD l 0 0) (getD l (length l - 1) 0)
+
+-- closed: first and last vertex have the same bit patterns
+unfoldable pub closedRing : Part → Bool
+closedRing p = endsMeet (p .xs) && endsMeet (p .ys)
+
+-- if the type's row is closed, all parts are
+unfoldable pub ringsClosed : Outline → Bool
+ringsClosed o = not (rowOf (o .kind) .closed) || allOf closedRing (ownParts o)
+
+unfoldable pub ringRule : List Outline → Out (Unit {0})
+ringRule os = rule (allOf ringsClosed os) table.ring
+
+-- ---- MultiPolygon only
+
+abbrev pub isMultiPolygon : Outline → Bool
+isMultiPolygon o = eqb (o .kind) 6
+
+-- ---- 14: every coordinate is on grid
+
+unfoldable pub onGridShape : Outline → Bool
+onGridShape o = not (isMultiPolygon o) || (allOnGrid (o .xs) && allOnGrid (o .ys))
+
+unfoldable pub gridRule : List Outline → Out (Unit {0})
+gridRule os = rule (allOf onGridShape os) table.grid
+
+-- ---- 15: no ring's turn is zero, and the first ring is clockwise
+
+-- a ring's turn
+unfoldable pub ringTurn : Part → ℤ
+ringTurn p = turnOf (p .xs) (p .ys)
+
+-- it is not zero
+unfoldable pub turned : Part → Bool
+turned p = not (zeroTurn (ringTurn p))
+
+-- the first ring's is negative
+unfoldable pub firstClockwise : List Part → Bool
+firstClockwise [] = true
+firstClockwise (p ∷ ps) = clockwise (ringTurn p)
+
+unfoldable pub ringsTurned : List Part → Bool
+ringsTurned ps = firstClockwise ps && allOf turned ps
+
+unfoldable pub turnsHold : Outline → Bool
+turnsHold o = not (isMultiPolygon o) || ringsTurned (ownParts o)
+
+unfoldable pub turnRule : List Outline → Out (Unit {0})
+turnRule os = rule (allOf turnsHold os) table.turn
+
+-- ---- 16: the page's box is in value that of its vertices, if it has any
+
+unfoldable pub boxHolds : Bounds → List ℕ → List ℕ → Bool
+boxHolds p xs ys = not (ltb 0 (length xs)) || sameBox p (boxOf xs ys)
+
+unfoldable pub boxRule : Bounds → List ℕ → List ℕ → Out (Unit {0})
+boxRule p xs ys = rule (boxHolds p xs ys) table.boxValue

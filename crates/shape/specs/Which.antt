@@ -1,0 +1,21 @@
+-- The three rules that go shape by shape, for one walk over the shapes. Assumes nothing.
+use Prim.Native.Nat.{ℕ}
+use mathlib.Core.Bool.{Bool, true, _&&_}
+use lib.Dec.{leb}
+use lib.ListN.{length}
+use Rattle.shape.specs.declared.one.Which.{Which}
+use Rattle.shape.specs.declared.one.Which.the-variants.{Ring, Grid, Turn}
+use Rattle.shape.specs.Outline.{Outline}
+use Rattle.shape.specs.Rules.{ringsClosed, onGridShape, turnsHold}
+
+-- what each of them tests of a shape
+unfoldable pub testOf : Which → Outline → Bool
+testOf Ring o = ringsClosed o
+testOf Grid o = onGridShape o
+testOf Turn o = turnsHold o
+
+-- what must have passed before it is tested: before its turns, that it is on grid and not over 2,048 vertices
+unfoldable pub readyFor : Which → Outline → Bool
+readyFor Ring o = true
+readyFor Grid o = true
+readyFor Turn o = onGridShape o && leb (length (o .xs)) 2048

@@ -1,0 +1,3 @@
+// The shapes of a page: rules 12 to 16 of its contents, over the page's lists as they were read. Parts of them are lent on, and none is copied.
+pub mod one;
+pub mod rules;

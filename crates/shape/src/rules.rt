@@ -1,0 +1,107 @@
+// Rules 12 to 16 of a page's contents, over its lists: types, part counts, part lengths, and the patterns of its vertices.
+ghost use mathlib.Core.Path.{_≡_};
+ghost use mathlib.Core.Bool.{true, _&&_};
+ghost use Prim.Native.Nat.{_≤_};
+ghost use lib.ListN.{length};
+ghost use Rattle.answer.specs.Rule.{judged};
+ghost use Rattle.types.specs.Every.{allOf};
+ghost use Rattle.types.specs.Parts.{partsHold};
+ghost use Rattle.extent.specs.Rank.{allFinite};
+ghost use Rattle.extent.specs.Boxes.{patterns, FiniteBox};
+ghost use Rattle.shape.specs.Outline.{outlinesOf};
+ghost use Rattle.shape.specs.Rules.{finiteRule, ringRule, onGridShape, gridRule, turnRule, boxHolds, boxRule};
+ghost use Rattle.shape.specs.Which.{testOf, readyFor};
+use crate::one::Which;
+use crate::one::shape_holds;
+use answer::Verdict;
+use answer::table::BOX;
+use answer::table::FINITE;
+use answer::table::GRID;
+use answer::table::RING;
+use answer::table::TURN;
+use extent::boxes::Box;
+use extent::boxes::box_of;
+use extent::boxes::same_value;
+use extent::rank::all_finite;
+use types::parts::total;
+
+// Whether all coordinates are finite.
+fn both_finite(xs: &[u64], ys: &[u64]) -> bool
+    ensures { λ r. ⌜ r ≡ (allFinite (now (xs .entry)) && allFinite (now (ys .entry))) ⌝ }
+{
+    if all_finite(xs) {
+        return all_finite(ys);
+    }
+    false
+}
+
+// 12: all coordinates are finite.
+pub fn finite_rule(xs: &[u64], ys: &[u64]) -> Verdict
+    ensures { λ r. ⌜ judged r ≡ finiteRule (now (xs .entry)) (now (ys .entry)) ⌝ }
+{
+    Verdict::of(both_finite(xs, ys), FINITE)
+}
+
+// Whether each shape passes one of the rules that go shape by shape: a shape's parts, and its vertices, are the first of those left.
+fn each_shape(w: Which, types: &[u8], counts: &[u16], lens: &[u16], xs: &[u64], ys: &[u64]) -> bool
+    requires { ⌜ (partsHold (now types) (now counts) (now lens) (length (now xs)) ≡ true) × (length (now ys) ≡ length (now xs)) × (allOf (readyFor w) (outlinesOf (now types) (now counts) (now lens) (now xs) (now ys)) ≡ true) ⌝ }
+    ensures { λ r. ⌜ r ≡ allOf (testOf w) (outlinesOf (now (types .entry)) (now (counts .entry)) (now (lens .entry)) (now (xs .entry)) (now (ys .entry))) ⌝ }
+{
+    let mut i: usize = 0;
+    let mut k: usize = 0;
+    let mut at: usize = 0;
+    while i < types.len() {
+        let e = k + counts[i] as usize;
+        let end = at + total(&lens[k..e]);
+        if !shape_holds(w, types[i], &lens[k..e], &xs[at..end], &ys[at..end]) {
+            return false;
+        }
+        k = e;
+        at = end;
+        i += 1;
+    }
+    true
+}
+
+// 13: rings are closed. Rule 11 has passed.
+pub fn ring_rule(types: &[u8], counts: &[u16], lens: &[u16], xs: &[u64], ys: &[u64]) -> Verdict
+    requires { ⌜ (partsHold (now types) (now counts) (now lens) (length (now xs)) ≡ true) × (length (now ys) ≡ length (now xs)) ⌝ }
+    ensures { λ r. ⌜ judged r ≡ ringRule (outlinesOf (now (types .entry)) (now (counts .entry)) (now (lens .entry)) (now (xs .entry)) (now (ys .entry))) ⌝ }
+{
+    Verdict::of(each_shape(Which::Ring, types, counts, lens, xs, ys), RING)
+}
+
+// 14: each MultiPolygon is on grid. Rule 11 has passed.
+pub fn grid_rule(types: &[u8], counts: &[u16], lens: &[u16], xs: &[u64], ys: &[u64]) -> Verdict
+    requires { ⌜ (partsHold (now types) (now counts) (now lens) (length (now xs)) ≡ true) × (length (now ys) ≡ length (now xs)) ⌝ }
+    ensures { λ r. ⌜ judged r ≡ gridRule (outlinesOf (now (types .entry)) (now (counts .entry)) (now (lens .entry)) (now (xs .entry)) (now (ys .entry))) ⌝ }
+{
+    Verdict::of(each_shape(Which::Grid, types, counts, lens, xs, ys), GRID)
+}
+
+// 15: no ring of a MultiPolygon has turn zero, and the first is clockwise. Rules 11 and 14 have passed.
+pub fn turn_rule(types: &[u8], counts: &[u16], lens: &[u16], xs: &[u64], ys: &[u64]) -> Verdict
+    requires { ⌜ (partsHold (now types) (now counts) (now lens) (length (now xs)) ≡ true) × (length (now ys) ≡ length (now xs)) × (length (now xs) ≤ 2048) × (allOf onGridShape (outlinesOf (now types) (now counts) (now lens) (now xs) (now ys)) ≡ true) ⌝ }
+    ensures { λ r. ⌜ judged r ≡ turnRule (outlinesOf (now (types .entry)) (now (counts .entry)) (now (lens .entry)) (now (xs .entry)) (now (ys .entry))) ⌝ }
+{
+    Verdict::of(each_shape(Which::Turn, types, counts, lens, xs, ys), TURN)
+}
+
+// Whether a box is in value that of the vertices, if there are any.
+fn box_holds(b: Box, xs: &[u64], ys: &[u64]) -> bool
+    requires { ⌜ FiniteBox (patterns b) × (length (now ys) ≡ length (now xs)) × (allFinite (now xs) ≡ true) × (allFinite (now ys) ≡ true) ⌝ }
+    ensures { λ r. ⌜ r ≡ boxHolds (patterns b) (now (xs .entry)) (now (ys .entry)) ⌝ }
+{
+    if xs.len() == 0 {
+        return true;
+    }
+    same_value(b, box_of(xs, ys))
+}
+
+// 16: the page's box is in value that of its vertices. Rules 7 and 12 have passed.
+pub fn box_rule(b: Box, xs: &[u64], ys: &[u64]) -> Verdict
+    requires { ⌜ FiniteBox (patterns b) × (length (now ys) ≡ length (now xs)) × (allFinite (now xs) ≡ true) × (allFinite (now ys) ≡ true) ⌝ }
+    ensures { λ r. ⌜ judged r ≡ boxRule (patterns b) (now (xs .entry)) (now (ys .entry)) ⌝ }
+{
+    Verdict::of(box_holds(b, xs, ys), BOX)
+}
