@@ -1,2 +1,4 @@
 pub mod Givens
 pub mod Vertices
+pub mod Orders
+pub mod Ruled

@@ -1,0 +1,27 @@
+-- One rule after another: what the verdict of the first says of both. Assumes nothing.
+use mathlib.Core.Path.{_≡_, refl, sym, ap, _∙_}
+use Rattle.answer.specs.Outcome.{Out, refused, ok, on}
+use Rattle.answer.specs.Rule.{judged}
+use Rattle.answer.specs.declared.Refusal.{Refusal}
+use Rattle.answer.specs.declared.Verdict.{Verdict}
+use Rattle.answer.specs.declared.Verdict.the-variants.{Holds, Refused}
+use Rattle.answer.proofs.Rules.{judged-holds, judged-refused}
+
+module _ {A B : Type 0} (o : Out A) (f : A → Out B) where
+  -- what is refused first is refused
+  pub on-refused : (w : Refusal) → o ≡ refused w → on o f ≡ refused w
+  unfolding on
+  on-refused w e = rw e
+
+  -- what holds first leaves the rest
+  pub on-value : (a : A) → o ≡ ok a → on o f ≡ f a
+  unfolding on
+  on-value a e = rw e
+
+-- the same for a verdict on the first
+module _ {B : Type 0} (o : Out (Unit {0})) (f : Unit {0} → Out B) where
+  pub then-refused : (w : Refusal) → judged (Refused w) ≡ o → on o f ≡ refused w
+  then-refused w e = on-refused o f w (sym e ∙ judged-refused w)
+
+  pub then-holds : judged Holds ≡ o → on o f ≡ f tt
+  then-holds e = on-value o f tt (sym e ∙ judged-holds)

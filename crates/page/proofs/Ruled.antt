@@ -1,0 +1,43 @@
+-- Rules 12 to 15 in order: one law for each way through them, and what it means that all have passed. Assumes nothing.
+use Prim.Native.Nat.{ℕ}
+use mathlib.Core.Path.{_≡_, refl, sym, ap, _∙_}
+use mathlib.Core.Bool.{Bool, true, false, _&&_}
+use mathlib.Core.List.{List}
+use Rattle.answer.specs.Table as table
+use Rattle.answer.specs.Outcome.{Out, refused, ok, on}
+use Rattle.answer.specs.Rule.{judged}
+use Rattle.answer.specs.declared.Refusal.{Refusal}
+use Rattle.answer.specs.declared.Verdict.{Verdict}
+use Rattle.answer.specs.declared.Verdict.the-variants.{Holds, Refused}
+use Rattle.answer.proofs.Outcomes.{on-ok}
+use Rattle.answer.proofs.Rules.{judged-holds, judged-refused, rule-ok}
+use Rattle.types.specs.Every.{allOf}
+use Rattle.shape.specs.Outline.{Outline}
+use Rattle.shape.specs.Rules.{finiteRule, ringRule, gridRule, turnRule, onGridShape}
+use Rattle.page.specs.Contents.{outlineRules}
+use Rattle.page.proofs.Orders.{then-refused, then-holds}
+
+-- a rule that lets pass, by its test
+pub grid-passed : (os : List Outline) → judged Holds ≡ gridRule os → allOf onGridShape os ≡ true
+unfolding gridRule
+grid-passed os e = rule-ok _ table.grid tt (sym e ∙ judged-holds)
+
+module _ (os : List Outline) (xs ys : List ℕ) where
+  pub ruled-finite : (w : Refusal) → judged (Refused w) ≡ finiteRule xs ys → judged (Refused w) ≡ outlineRules os xs ys
+  unfolding outlineRules
+  ruled-finite w e = judged-refused w ∙ sym (then-refused (finiteRule xs ys) _ w e)
+
+  module _ (f : judged Holds ≡ finiteRule xs ys) where
+    pub ruled-ring : (w : Refusal) → judged (Refused w) ≡ ringRule os → judged (Refused w) ≡ outlineRules os xs ys
+    unfolding outlineRules
+    ruled-ring w e = judged-refused w ∙ sym (then-holds (finiteRule xs ys) _ f ∙ then-refused (ringRule os) _ w e)
+
+    module _ (r : judged Holds ≡ ringRule os) where
+      pub ruled-grid : (w : Refusal) → judged (Refused w) ≡ gridRule os → judged (Refused w) ≡ outlineRules os xs ys
+      unfolding outlineRules
+      ruled-grid w e =
+          judged-refused w ∙ sym (then-holds (finiteRule xs ys) _ f ∙ then-holds (ringRule os) _ r ∙ then-refused (gridRule os) _ w e)
+
+      pub ruled-turn : (v : Verdict) → judged Holds ≡ gridRule os → judged v ≡ turnRule os → judged v ≡ outlineRules os xs ys
+      unfolding outlineRules
+      ruled-turn v g e = e ∙ sym (then-holds (finiteRule xs ys) _ f ∙ then-holds (ringRule os) _ r ∙ then-holds (gridRule os) _ g)
