@@ -2,3 +2,4 @@ pub mod Givens
 pub mod Vertices
 pub mod Orders
 pub mod Ruled
+pub mod Loading

@@ -18,6 +18,12 @@ module _ {A B : Type 0} (o : Out A) (f : A → Out B) where
   unfolding on
   on-value a e = rw e
 
+-- one after another, and a third after both
+pub on-on : {A B C : Type 0} (o : Out A) (f : A → Out B) (g : B → Out C) → on (on o f) g ≡ on o (λ a. on (f a) g)
+unfolding on
+on-on (refused w) f g = refl
+on-on (ok a) f g = refl
+
 -- the same for a verdict on the first
 module _ {B : Type 0} (o : Out (Unit {0})) (f : Unit {0} → Out B) where
   pub then-refused : (w : Refusal) → judged (Refused w) ≡ o → on o f ≡ refused w

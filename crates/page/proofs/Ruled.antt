@@ -3,24 +3,24 @@ use Prim.Native.Nat.{ℕ}
 use mathlib.Core.Path.{_≡_, refl, sym, ap, _∙_}
 use mathlib.Core.Bool.{Bool, true, false, _&&_}
 use mathlib.Core.List.{List}
-use Rattle.answer.specs.Table as table
 use Rattle.answer.specs.Outcome.{Out, refused, ok, on}
 use Rattle.answer.specs.Rule.{judged}
 use Rattle.answer.specs.declared.Refusal.{Refusal}
 use Rattle.answer.specs.declared.Verdict.{Verdict}
 use Rattle.answer.specs.declared.Verdict.the-variants.{Holds, Refused}
 use Rattle.answer.proofs.Outcomes.{on-ok}
-use Rattle.answer.proofs.Rules.{judged-holds, judged-refused, rule-ok}
+use Rattle.answer.proofs.Rules.{judged-holds, judged-refused}
+use Rattle.extent.specs.Rank.{allFinite}
 use Rattle.types.specs.Every.{allOf}
 use Rattle.shape.specs.Outline.{Outline}
+use Rattle.shape.proofs.Passing.{finite-passed, grid-passed}
 use Rattle.shape.specs.Rules.{finiteRule, ringRule, gridRule, turnRule, onGridShape}
 use Rattle.page.specs.Contents.{outlineRules}
 use Rattle.page.proofs.Orders.{then-refused, then-holds}
 
--- a rule that lets pass, by its test
-pub grid-passed : (os : List Outline) → judged Holds ≡ gridRule os → allOf onGridShape os ≡ true
-unfolding gridRule
-grid-passed os e = rule-ok _ table.grid tt (sym e ∙ judged-holds)
+-- before 15, that all are on grid
+pub grid-held : (os : List Outline) → judged Holds ≡ gridRule os → allOf onGridShape os ≡ true
+grid-held os e = grid-passed os tt (sym e ∙ judged-holds)
 
 module _ (os : List Outline) (xs ys : List ℕ) where
   pub ruled-finite : (w : Refusal) → judged (Refused w) ≡ finiteRule xs ys → judged (Refused w) ≡ outlineRules os xs ys
@@ -41,3 +41,8 @@ module _ (os : List Outline) (xs ys : List ℕ) where
       pub ruled-turn : (v : Verdict) → judged Holds ≡ gridRule os → judged v ≡ turnRule os → judged v ≡ outlineRules os xs ys
       unfolding outlineRules
       ruled-turn v g e = e ∙ sym (then-holds (finiteRule xs ys) _ f ∙ then-holds (ringRule os) _ r ∙ then-holds (gridRule os) _ g)
+
+-- all have passed: so all coordinates are finite
+pub ruled-all : (os : List Outline) (xs ys : List ℕ) → outlineRules os xs ys ≡ ok tt → (allFinite xs ≡ true) × (allFinite ys ≡ true)
+unfolding outlineRules
+ruled-all os xs ys e = let f = on-ok (finiteRule xs ys) _ tt e in finite-passed xs ys (f .0) (f .1)

@@ -1,7 +1,7 @@
 -- The two columns of a page, by the ways through them. Assumes nothing.
 use Prim.Native.Nat.{ℕ, _+_, _-_}
 use mathlib.Core.Path.{_≡_, refl, sym, ap, ap₂, _∙_}
-use mathlib.Core.List.{List}
+use mathlib.Core.List.{List, []}
 use native.Mathlib.Omega.{arith}
 use lib.ListN.{length, take, drop}
 use Rattle.answer.specs.Outcome.{Out, refused, ok, on}
@@ -10,6 +10,8 @@ use Rattle.answer.specs.declared.Refusal.{Refusal}
 use Rattle.answer.specs.declared.Verdict.{Verdict}
 use Rattle.answer.specs.declared.Verdict.the-variants.{Holds, Refused}
 use Rattle.answer.proofs.Rules.{passed-ok, passed-refused, refused-passed, passed-on}
+use Rattle.answer.proofs.Outcomes.{ok-inj, on-ok}
+use Rattle.column.proofs.Decoding.{scratch-ok}
 use Rattle.column.specs.Read.{decodeOf}
 use Rattle.frame.specs.declared.head.Head.{Head}
 use Rattle.page.specs.Given.{Given}
@@ -50,3 +52,14 @@ module _ (h : Head) (b xs ys s : List ℕ) (n : ℕ) (e : s ≡ xPart h b) (l : 
         verdict = u .verdict ∙ sym (passed-on (decodeOf 64 t m) (λ l. record { xs = xs; ys = l })) ∙ ap passed (sym whole);
         vertices = λ q. whole ∙ rw (u .value q);
       }
+
+-- as many as the head says
+pub vertices-long : (h : Head) (b xs ys : List ℕ) → verticesOf h b ≡ ok (record { xs = xs; ys = ys }) → (length xs ≡ h .v) × (length ys ≡ h .v)
+unfolding verticesOf
+vertices-long h b xs ys e =
+    let x = on-ok (decodeOf 64 (xPart h b) (h .v)) _ _ e in
+    let y = on-ok (decodeOf 64 (yPart h b) (h .v)) _ _ (x .2) in
+    let q = ok-inj (y .2) in
+    let qx : x .0 ≡ xs = ap (λ (t : Vertices). t .xs) q in
+    let qy : y .0 ≡ ys = ap (λ (t : Vertices). t .ys) q in
+    (rw (← qx) (scratch-ok 64 (xPart h b) (h .v) [] (x .0) (x .1) .0), rw (← qy) (scratch-ok 64 (yPart h b) (h .v) [] (y .0) (y .1) .0))

@@ -1,21 +1,17 @@
 -- What is known of the vertices of a shape is known of those of a part. Assumes nothing.
 use mathlib.Core.Path.{_≡_, sym, ap, _∙_}
-use mathlib.Core.Bool.{true}
 use mathlib.Core.List.{List}
-use Prim.Native.Nat.{ℕ, _+_, _-_, _^_, _≤_, min}
+use Prim.Native.Nat.{ℕ, _-_, _^_, min}
 use native.Mathlib.Omega.{arith}
 use lib.IntN.{ℤ}
 use lib.ListN.{length, take, drop, length-take, length-drop}
 use mir.Syntax.{w64}
 use mir.Val.{toZ, ofZ}
-use Rattle.types.specs.Parts.{total}
-use Rattle.types.proofs.Sums.{total-split}
-use Rattle.grid.specs.Grid.{allOnGrid}
 use Rattle.grid.specs.Turn.{turnOf}
 use Rattle.grid.proofs.OnGrid.{all-on-grid-part}
 use Rattle.grid.proofs.Sizes.{back-64}
 use Rattle.grid.proofs.Turns.{turn-64}
-use Rattle.shape.specs.Ready.{Cut, Gridded}
+use Rattle.shape.specs.Ready.{Gridded}
 
 pub length-part : (at n : ℕ) (l : List ℕ) → length (take n (drop at l)) ≡ min n (length l - at)
 length-part at n l = length-take n (drop at l) ∙ ap (min n) (length-drop at l)

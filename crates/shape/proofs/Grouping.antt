@@ -1,14 +1,14 @@
 -- The polygons of a MultiPolygon in order make up its rings; each starts with a ring that opens it, and no other of its rings opens one.
 -- Assumes nothing.
 use mathlib.Core.Path.{_≡_, refl, sym, ap, _∙_}
-use mathlib.Core.Bool.{Bool, true, false, not, _&&_}
+use mathlib.Core.Bool.{Bool, true, false, not}
 use mathlib.Core.List.{List, [], _∷_, _++_}
 use Rattle.types.specs.Every.{allOf}
 use Rattle.types.proofs.Both.{both}
 use Rattle.types.proofs.Alls.{all-none, all-cons}
 use Rattle.shape.specs.Outline.{Part}
 use Rattle.shape.specs.Rules.{firstClockwise}
-use Rattle.shape.specs.Polygons.{Polygon, opens, Grouped, placed, grouped, polygonsOf, ringsOf, isHole, wellMade}
+use Rattle.shape.specs.Polygons.{opens, placed, grouped, polygonsOf, ringsOf, isHole, wellMade}
 
 -- the rings before the first polygon, and those of the polygons, are all of them
 whole : (ps : List Part) → grouped ps .before ++ ringsOf (grouped ps .polygons) ≡ ps

@@ -5,4 +5,7 @@ pub mod Turning
 pub mod Parting
 pub mod Walking
 pub mod Whiches
+pub mod Outlines
+pub mod Passing
 pub mod Grouping
+pub mod Worked

@@ -1,13 +1,12 @@
 -- The rings of a MultiPolygon: the first must be clockwise, and then the others decide. Assumes nothing.
 use mathlib.Core.Path.{_≡_, refl, sym, ap, _∙_, subst}
-use mathlib.Core.Bool.{Bool, true, false, not, _&&_, false≢true}
+use mathlib.Core.Bool.{Bool, true, false, not, false≢true}
 use mathlib.Core.List.{List, [], _∷_}
-use Prim.Native.Nat.{ℕ, _+_, _-_, _≤_, _<_}
+use Prim.Native.Nat.{ℕ, _-_, _≤_, _<_}
 use native.Mathlib.Omega.{arith}
 use lib.IntN.{ℤ, pos, negsuc}
 use lib.ListN.{length, getD, take, drop, length-drop}
 use Rattle.types.specs.Every.{allOf}
-use Rattle.types.specs.Parts.{total}
 use Rattle.types.proofs.Both.{first-fails, then}
 use Rattle.types.proofs.Alls.{all-none, all-cons}
 use Rattle.types.proofs.Sums.{total-cons}

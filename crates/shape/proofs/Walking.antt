@@ -1,34 +1,31 @@
--- The walk over the shapes of a page, for any test of a shape: the shapes from i on, with the parts from k on and the vertices from at on,
--- decide. Assumes nothing.
-use mathlib.Core.Path.{_≡_, refl, sym, ap, _∙_, subst}
-use mathlib.Core.Bool.{Bool, true, false, _&&_}
+-- The walk over the shapes of a page: where the shape at i starts and ends among the parts and the vertices, and that it is the shape at i.
+-- Assumes nothing.
+use mathlib.Core.Path.{_≡_, refl, sym, ap, _∙_}
+use mathlib.Core.Bool.{true}
 use mathlib.Core.List.{List, [], _∷_}
 use Prim.Native.Nat.{ℕ, suc, _+_, _-_, _≤_, _<_, zero-le}
 use native.Mathlib.Numerals.{add-one}
 use native.Mathlib.Omega.{arith}
 use lib.ListN.{length, getD, take, drop, length-drop, drop-of-length-le}
 use lib.Seq.{drop-cons, drop-drop, length-take-le}
-use Rattle.types.specs.Every.{allOf}
 use Rattle.types.specs.Parts.{total, partsAgree, partsHold}
-use Rattle.types.proofs.Both.{both-l, first-fails, then}
-use Rattle.types.proofs.Alls.{all-none, all-cons}
 use Rattle.types.proofs.Sums.{total-split}
 use Rattle.types.proofs.Agreeing.{agree-even}
 use Rattle.types.proofs.Passed.{InTable, First, hold-agree, hold-total, parts-cons}
 use Rattle.shape.specs.Outline.{Outline, outlineWith, outlinesOf}
 use Rattle.shape.specs.Ready.{Cut}
 
--- i shapes are passed, with the parts before k and the vertices before at, and passed the test f
-pub record Walking (f : Outline → Bool) (types counts lens xs ys : List ℕ) (i k at : ℕ) : Type 0 where
+-- i shapes are passed, with the parts before k and the vertices before at
+pub record Walking (types counts lens xs ys : List ℕ) (i k at : ℕ) : Type 0 where
   pub agree : partsAgree (drop i types) (drop i counts) (drop k lens) ≡ true
   pub parts : k ≤ length lens
   pub sum : total (drop k lens) + at ≡ length xs
   pub same : length ys ≡ length xs
-  pub rest : allOf f (outlinesOf (drop i types) (drop i counts) (drop k lens) (drop at xs) (drop at ys)) ≡ allOf f (outlinesOf types counts lens xs ys)
+  pub rest : drop i (outlinesOf types counts lens xs ys) ≡ outlinesOf (drop i types) (drop i counts) (drop k lens) (drop at xs) (drop at ys)
 
-pub walking-none : (f : Outline → Bool) (types counts lens xs ys : List ℕ) → partsHold types counts lens (length xs) ≡ true → length ys ≡ length xs
-    → Walking f types counts lens xs ys 0 0 0
-walking-none f types counts lens xs ys e l = record {
+pub walking-none : (types counts lens xs ys : List ℕ) → partsHold types counts lens (length xs) ≡ true → length ys ≡ length xs
+    → Walking types counts lens xs ys 0 0 0
+walking-none types counts lens xs ys e l = record {
   agree = hold-agree types counts lens (length xs) e;
   parts = zero-le;
   sum = omega (arith, hold-total types counts lens (length xs) e);
@@ -40,7 +37,7 @@ walking-none f types counts lens xs ys e l = record {
 abbrev pub outlineAt : ℕ → List ℕ → List ℕ → List ℕ → ℕ → ℕ → ℕ → ℕ → Outline
 outlineAt t lens xs ys k e at end = outlineWith t (take (e - k) (drop k lens)) (take (end - at) (drop at xs)) (take (end - at) (drop at ys))
 
-module _ (f : Outline → Bool) (types counts lens xs ys : List ℕ) (i k at : ℕ) (w : Walking f types counts lens xs ys i k at) (h : i < length types) where
+module _ (types counts lens xs ys : List ℕ) (i k at : ℕ) (w : Walking types counts lens xs ys i k at) (h : i < length types) where
   -- it has a part count
   pub walking-counted : i < length counts
   walking-counted = omega (arith, agree-even (drop i types) (drop i counts) (drop k lens) (w .agree), length-drop i types, length-drop i counts)
@@ -85,11 +82,11 @@ module _ (f : Outline → Bool) (types counts lens xs ys : List ℕ) (i k at : �
         long : (l : List ℕ) → length l ≡ length xs → length (take (end - at) (drop at l)) ≡ end - at
         long l same = length-take-le (end - at) (drop at l) (omega (arith, walking-there, length-drop at l))
 
-    -- the shape at i, and those after it
-    walking-one : outlinesOf (drop i types) (drop i counts) (drop k lens) (drop at xs) (drop at ys) ≡ outline ∷ outlinesOf (drop (i + 1) types) (drop (i + 1) counts) (drop e lens) (drop end xs) (drop end ys)
+    after : drop i (outlinesOf types counts lens xs ys) ≡ outline ∷ outlinesOf (drop (i + 1) types) (drop (i + 1) counts) (drop e lens) (drop end xs) (drop end ys)
     unfolding outlinesOf
-    walking-one =
-        (λ j. outlinesOf (drop-cons types i 0 h j) (drop-cons counts i 0 walking-counted j) (drop k lens) (drop at xs) (drop at ys))
+    after =
+        w .rest
+        ∙ (λ j. outlinesOf (drop-cons types i 0 h j) (drop-cons counts i 0 walking-counted j) (drop k lens) (drop at xs) (drop at ys))
         ∙ (λ j. outlineWith (getD types i 0) (take (between j) (drop k lens)) (take (own j) (drop at xs)) (take (own j) (drop at ys))
         ∷ outlinesOf (drop (sym (add-one i) j) types) (drop (sym (add-one i) j) counts) (parts j) (vertices xs j) (vertices ys j))
       where
@@ -102,30 +99,26 @@ module _ (f : Outline → Bool) (types counts lens xs ys : List ℕ) (i k at : �
         vertices : (l : List ℕ) → drop (total (take (getD counts i 0) (drop k lens))) (drop at l) ≡ drop end l
         vertices l = ap (λ (n : ℕ). drop (total (take n (drop k lens))) (drop at l)) between ∙ drop-drop (total (take (e - k) (drop k lens))) at l ∙ ap (λ (n : ℕ). drop n l) (sym g)
 
-    walking-split : (f outline && allOf f (outlinesOf (drop (i + 1) types) (drop (i + 1) counts) (drop e lens) (drop end xs) (drop end ys))) ≡ allOf f (outlinesOf types counts lens xs ys)
-    walking-split = sym (ap (allOf f) walking-one ∙ all-cons f outline _) ∙ w .rest
+    tail : drop (i + 1) (outlinesOf types counts lens xs ys) ≡ outlinesOf (drop (i + 1) types) (drop (i + 1) counts) (drop e lens) (drop end xs) (drop end ys)
+    tail = sym (drop-drop 1 i (outlinesOf types counts lens xs ys)) ∙ ap (λ (l : List Outline). drop 1 l) after
 
-    -- one that passes
-    pub walking-more : f outline ≡ true → Walking f types counts lens xs ys (i + 1) e end
-    walking-more t = record {
+    -- it is the shape at i
+    pub walking-stands : drop i (outlinesOf types counts lens xs ys) ≡ outline ∷ drop (i + 1) (outlinesOf types counts lens xs ys)
+    walking-stands = after ∙ ap (λ (l : List Outline). outline ∷ l) (sym tail)
+
+    -- and the walk goes on behind it
+    pub walking-more : Walking types counts lens xs ys (i + 1) e end
+    walking-more = record {
       agree = (λ j. partsAgree (drop (add-one i j) types) (drop (add-one i j) counts) (sym (drop-drop (getD counts i 0) k lens ∙ ap (λ (n : ℕ). drop n lens) (sym d)) j)) ∙ walking-first .others;
       parts = omega (arith, walking-parts);
       sum = omega (arith, left, w .sum);
       same = w .same;
-      rest = then (f outline) _ _ t refl ∙ walking-split;
+      rest = tail;
     }
 
-    -- one that does not
-    pub walking-stop : f outline ≡ false → false ≡ allOf f (outlinesOf types counts lens xs ys)
-    walking-stop t = first-fails (f outline) _ t ∙ walking-split
-
-    -- where all pass, this one does
-    pub walking-passes : allOf f (outlinesOf types counts lens xs ys) ≡ true → f outline ≡ true
-    walking-passes a = both-l (f outline) _ (walking-split ∙ a)
-
--- all of them
-pub walking-done : (f : Outline → Bool) (types counts lens xs ys : List ℕ) (i k at : ℕ) → Walking f types counts lens xs ys i k at → length types ≤ i
-    → true ≡ allOf f (outlinesOf types counts lens xs ys)
+-- none is left
+pub walking-end : (types counts lens xs ys : List ℕ) (i k at : ℕ) → Walking types counts lens xs ys i k at → length types ≤ i
+    → drop i (outlinesOf types counts lens xs ys) ≡ []
 unfolding outlinesOf
-walking-done f types counts lens xs ys i k at w h =
-    sym (all-none f) ∙ sym (ap (λ (l : List ℕ). allOf f (outlinesOf l (drop i counts) (drop k lens) (drop at xs) (drop at ys))) (drop-of-length-le types {i = i} h)) ∙ w .rest
+walking-end types counts lens xs ys i k at w h =
+    w .rest ∙ ap (λ (l : List ℕ). outlinesOf l (drop i counts) (drop k lens) (drop at xs) (drop at ys)) (drop-of-length-le types {i = i} h)

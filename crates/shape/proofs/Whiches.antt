@@ -10,11 +10,9 @@ use lib.ListN.{length, take, drop, length-take, length-drop}
 use Rattle.answer.specs.Table as table
 use Rattle.answer.specs.Rule.{rule}
 use Rattle.types.specs.Every.{allOf}
-use Rattle.types.specs.Parts.{total}
 use Rattle.types.proofs.Both.{both, both-l, both-r}
-use Rattle.types.proofs.Alls.{all-none, all-cons}
-use Rattle.shape.specs.declared.one.Which.{Which}
-use Rattle.shape.specs.declared.one.Which.the-variants.{Ring, Grid, Turn}
+use Rattle.shape.specs.declared.which.Which.{Which}
+use Rattle.shape.specs.declared.which.Which.the-variants.{Ring, Grid, Turn}
 use Rattle.shape.specs.Outline.{Outline, verticesOf, outlineWith, outlinesOf}
 use Rattle.shape.specs.Rules.{ringsClosed, ringRule, onGridShape, gridRule, turnsHold, turnRule}
 use Rattle.shape.specs.Which.{testOf, readyFor}

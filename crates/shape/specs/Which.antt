@@ -1,10 +1,9 @@
 -- The three rules that go shape by shape, for one walk over the shapes. Assumes nothing.
-use Prim.Native.Nat.{ℕ}
 use mathlib.Core.Bool.{Bool, true, _&&_}
 use lib.Dec.{leb}
 use lib.ListN.{length}
-use Rattle.shape.specs.declared.one.Which.{Which}
-use Rattle.shape.specs.declared.one.Which.the-variants.{Ring, Grid, Turn}
+use Rattle.shape.specs.declared.which.Which.{Which}
+use Rattle.shape.specs.declared.which.Which.the-variants.{Ring, Grid, Turn}
 use Rattle.shape.specs.Outline.{Outline}
 use Rattle.shape.specs.Rules.{ringsClosed, onGridShape, turnsHold}
 

@@ -1,13 +1,13 @@
--- Laws of a test that each of a list passes, and the walk that makes it: those from i on decide. Assumes nothing.
+-- Laws of a test that each of a list passes, and of the walk that makes it: those from place i on decide. Assumes nothing.
 use mathlib.Core.Path.{_≡_, refl, sym, ap, _∙_}
 use mathlib.Core.Bool.{Bool, true, false, _&&_, and-assoc}
 use mathlib.Core.List.{List, [], _∷_, _++_}
-use Prim.Native.Nat.{ℕ, zero, suc, _+_, _≤_, _<_}
-use native.Mathlib.Nat.{le-of-suc-le-suc}
+use Prim.Native.Nat.{ℕ, zero, suc, _+_, _<_}
+use native.Mathlib.Nat.{add-zero, le-of-suc-le-suc}
 use native.Mathlib.Numerals.{add-one}
 use native.Mathlib.Omega.{arith}
-use lib.ListN.{length, getD, drop, drop-of-length-le}
-use lib.Seq.{drop-cons}
+use lib.ListN.{length, getD, take, drop, take-append-drop}
+use lib.Seq.{drop-cons, getD-drop}
 use Rattle.types.specs.Every.{allOf}
 use Rattle.types.proofs.Both.{both, both-l, both-r, first-fails, then}
 
@@ -33,23 +33,42 @@ module _ {A : Type 0} (f : A → Bool) where
   all-at (a ∷ l) zero d e h = both-l (f a) (allOf f l) e
   all-at (a ∷ l) (suc i) d e h = all-at l i d (both-r (f a) (allOf f l) e) (le-of-suc-le-suc h)
 
-  -- ---- the walk
-
-  rest : (l : List A) (i : ℕ) (d : A) → i < length l → allOf f (drop i l) ≡ (f (getD l i d) && allOf f (drop (i + 1) l))
-  rest l i d h = ap (allOf f) (drop-cons l i d h) ∙ all-cons (getD l i d) (drop (suc i) l) ∙ ap (λ (n : ℕ). f (getD l i d) && allOf f (drop n l)) (sym (add-one i))
-
-  -- one more that passes, one that fails, and the end
-  pub all-more : (l : List A) (i : ℕ) (d : A) → i < length l → f (getD l i d) ≡ true → allOf f (drop i l) ≡ allOf f l → allOf f (drop (i + 1) l) ≡ allOf f l
-  all-more l i d h p e = then (f (getD l i d)) (allOf f (drop (i + 1) l)) (allOf f (drop (i + 1) l)) p refl ∙ sym (rest l i d h) ∙ e
-
-  pub all-stop : (l : List A) (i : ℕ) (d : A) → i < length l → f (getD l i d) ≡ false → allOf f (drop i l) ≡ allOf f l → false ≡ allOf f l
-  all-stop l i d h p e = first-fails (f (getD l i d)) (allOf f (drop (i + 1) l)) p ∙ sym (rest l i d h) ∙ e
-
-  pub all-done : (l : List A) (i : ℕ) → length l ≤ i → allOf f (drop i l) ≡ allOf f l → true ≡ allOf f l
-  all-done l i h e = sym all-none ∙ sym (ap (allOf f) (drop-of-length-le l {i = i} h)) ∙ e
+  -- those from a place on
+  pub all-drop : (i : ℕ) (l : List A) → allOf f l ≡ true → allOf f (drop i l) ≡ true
+  all-drop i l e = both-r (allOf f (take i l)) (allOf f (drop i l)) (sym (all-append (take i l) (drop i l)) ∙ ap (allOf f) (take-append-drop i l) ∙ e)
 
 -- a weaker test
 pub all-imp : {A : Type 0} (f g : A → Bool) (l : List A) → ((a : A) → f a ≡ true → g a ≡ true) → allOf f l ≡ true → allOf g l ≡ true
 unfolding allOf
 all-imp f g [] h e = refl
 all-imp f g (a ∷ l) h e = both (g a) (allOf g l) (h a (both-l (f a) (allOf f l) e)) (all-imp f g l h (both-r (f a) (allOf f l) e))
+
+-- ---- the walk: a stands at place i
+
+-- as an element does
+pub stands : {A : Type 0} (l : List A) (i : ℕ) (d : A) → i < length l → drop i l ≡ getD l i d ∷ drop (i + 1) l
+stands l i d h = drop-cons l i d h ∙ ap (λ (n : ℕ). getD l i d ∷ drop n l) (sym (add-one i))
+
+-- and the other way round
+pub stands-is : {A : Type 0} (l m : List A) (i : ℕ) (a d : A) → drop i l ≡ a ∷ m → getD l i d ≡ a
+stands-is {A} l m i a d q = sym (getD-drop i l 0 d ∙ ap (λ (n : ℕ). getD l n d) (add-zero i)) ∙ ap (λ (x : List A). getD x 0 d) q
+
+module _ {A : Type 0} (f : A → Bool) (l : List A) (i : ℕ) (a : A) (q : drop i l ≡ a ∷ drop (i + 1) l) where
+  split : allOf f (drop i l) ≡ (f a && allOf f (drop (i + 1) l))
+  split = ap (allOf f) q ∙ all-cons f a (drop (i + 1) l)
+
+  -- it passes
+  pub all-more : f a ≡ true → allOf f (drop i l) ≡ allOf f l → allOf f (drop (i + 1) l) ≡ allOf f l
+  all-more t e = then (f a) (allOf f (drop (i + 1) l)) (allOf f (drop (i + 1) l)) t refl ∙ sym split ∙ e
+
+  -- it does not
+  pub all-stop : f a ≡ false → allOf f (drop i l) ≡ allOf f l → false ≡ allOf f l
+  all-stop t e = first-fails (f a) (allOf f (drop (i + 1) l)) t ∙ sym split ∙ e
+
+  -- it does where all do
+  pub all-here : allOf f l ≡ true → f a ≡ true
+  all-here e = both-l (f a) (allOf f (drop (i + 1) l)) (sym split ∙ all-drop f i l e)
+
+-- none is left
+pub all-done : {A : Type 0} (f : A → Bool) (l : List A) (i : ℕ) → drop i l ≡ [] → allOf f (drop i l) ≡ allOf f l → true ≡ allOf f l
+all-done f l i q e = sym (all-none f) ∙ sym (ap (allOf f) q) ∙ e

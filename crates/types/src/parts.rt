@@ -1,6 +1,6 @@
 // Rule 11: no type over 6, and a page's part counts and part lengths go by the table and the sums.
 ghost use mathlib.Core.Path.{_≡_};
-ghost use Prim.Native.Nat.{_≤_, _<_};
+ghost use Prim.Native.Nat.{_<_};
 ghost use lib.Dec.{eqb};
 ghost use Rattle.answer.specs.Rule.{judged};
 ghost use Rattle.types.specs.Parts.{total, fits, lengthsFit, rowAgrees, shapeAgrees, partsAgree, partsHold, partsRule};

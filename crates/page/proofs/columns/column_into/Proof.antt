@@ -20,7 +20,7 @@ same-length : tie.Need-same-length
 same-length c = search needs
 
 returns : tie.Need-returns
-returns c = 
+returns c =
     let st = c .before .before .before .before .before .before .before .before in
     let k = c .enum-told .given in
     given-values 64 (st .args .s .now) (st .args .out .now) _ (k .0 .0) (rw (k .1) at (c .before .before .before .before .decode .ensures))
@@ -29,7 +29,7 @@ same-length-2 : tie.Need-same-length-2
 same-length-2 c = search needs
 
 returns-2 : tie.Need-returns-2
-returns-2 c = 
+returns-2 c =
     let st = c .before .before .before .before .before .before .before .before .before in
     let w = c .before .w .given in
     given-refused 64 (st .args .s .now) (st .args .out .now) _ (w .0 .0) (rw (w .1) at (c .before .before .before .before .before .decode .ensures))

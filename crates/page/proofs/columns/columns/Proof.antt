@@ -33,7 +33,7 @@ same-length : tie.Need-same-length
 same-length c = search needs
 
 returns : tie.Need-returns
-returns c = 
+returns c =
     let st = c .before .before .before .before .before .before .before .before .before .before .before .before .before in
     let w = c .before .w .given in
     columns-refused (st .args .h) (st .args .b .now) _ _ _ _ (x-part (st .args .h) (st .args .b .now) _ _ refl refl) (st .pre .2) (w .0 .0) (rw (w .1) at (c .before .before .before .before .before .column-into .ensures))
@@ -60,7 +60,7 @@ same-length-3 : tie.Need-same-length-3
 same-length-3 c = search needs
 
 returns-2 : tie.Need-returns-2
-returns-2 c = 
+returns-2 c =
     let st = c .before .before .before .before .before .before .before .before .before .before .before .before .before .before .before .before .before in
     columns-both (st .args .h) (st .args .b .now) _ _ _ _ (x-part (st .args .h) (st .args .b .now) _ _ refl refl) (st .pre .2) _ _ (c .before .before .column-into2 .result) (y-part (st .args .h) (st .args .b .now) _ _ refl refl) (st .pre .3) (rw (c .before .before .before .before .before .enum-told .given .1) at (c .before .before .before .before .before .before .before .before .before .column-into .ensures)) (c .before .before .column-into2 .ensures)
 

@@ -1,7 +1,7 @@
 -- `page::rules::outline_rules` gives the verdict of rules 12 to 15, in order: a law for each return. Assumes nothing.
 use mathlib.Core.Path.{_≡_, sym, _∙_}
 use Rattle.shape.specs.Outline.{outlinesOf}
-use Rattle.page.proofs.Ruled.{grid-passed, ruled-finite, ruled-ring, ruled-grid, ruled-turn}
+use Rattle.page.proofs.Ruled.{grid-held, ruled-finite, ruled-ring, ruled-grid, ruled-turn}
 use borrow.Author.Needs.{needs}
 use Rattle.page.proofs.rules.outline_rules.Statement.{statement}
 use Rattle.page.proofs.rules.outline_rules.Tie as tie
@@ -19,7 +19,7 @@ enum-known-w : tie.Need-enum-known-w
 enum-known-w c = search needs
 
 returns : tie.Need-returns
-returns c = 
+returns c =
     let a = c .before .before .before .before .before .before .before .before .before .args in
     let os = outlinesOf (a .types .now) (a .counts .now) (a .lens .now) (a .xs .now) (a .ys .now) in
     let w = c .before .w .given in
@@ -35,7 +35,7 @@ enum-known-w-2 : tie.Need-enum-known-w-2
 enum-known-w-2 c = search needs
 
 returns-2 : tie.Need-returns-2
-returns-2 c = 
+returns-2 c =
     let a = c .before .before .before .before .before .before .before .before .before .before .before .before .args in
     let os = outlinesOf (a .types .now) (a .counts .now) (a .lens .now) (a .xs .now) (a .ys .now) in
     let w = c .before .w2 .given in
@@ -52,7 +52,7 @@ enum-known-w-3 : tie.Need-enum-known-w-3
 enum-known-w-3 c = search needs
 
 returns-3 : tie.Need-returns-3
-returns-3 c = 
+returns-3 c =
     let a = c .before .before .before .before .before .before .before .before .before .before .before .before .before .before .before .args in
     let os = outlinesOf (a .types .now) (a .counts .now) (a .lens .now) (a .xs .now) (a .ys .now) in
     let w = c .before .w3 .given in
@@ -65,14 +65,14 @@ enum-told-3 : tie.Need-enum-told-3
 enum-told-3 c = search needs
 
 turn-rule-requires : tie.Need-turn-rule-requires
-turn-rule-requires c κs = 
+turn-rule-requires c κs =
     let a = c .before .before .before .before .before .before .before .before .before .before .before .before .before .before .args in
     let os = outlinesOf (a .types .now) (a .counts .now) (a .lens .now) (a .xs .now) (a .ys .now) in
     let p = c .before .before .before .before .before .before .before .before .before .before .before .before .before .before .pre in
-    (p .0, p .1, p .2, grid-passed os (rw (c .enum-told3 .given .1) at (c .before .before .grid-rule .ensures)))
+    (p .0, p .1, p .2, grid-held os (rw (c .enum-told3 .given .1) at (c .before .before .grid-rule .ensures)))
 
 returns-4 : tie.Need-returns-4
-returns-4 c = 
+returns-4 c =
     let a = c .before .before .before .before .before .before .before .before .before .before .before .before .before .before .before .args in
     let os = outlinesOf (a .types .now) (a .counts .now) (a .lens .now) (a .xs .now) (a .ys .now) in
     ruled-turn os (a .xs .now) (a .ys .now)

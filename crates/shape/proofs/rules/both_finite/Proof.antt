@@ -4,9 +4,6 @@ use Rattle.types.proofs.Both.{first-fails, then}
 use borrow.Author.Needs.{needs}
 use Rattle.shape.proofs.rules.both_finite.Statement.{statement}
 use Rattle.shape.proofs.rules.both_finite.Tie as tie
-use Rattle.shape.proofs.rules.both_finite.Reads as reads
-use Rattle.shape.proofs.rules.both_finite.Lts as lts
-use Rattle.extent.proofs.rank.all_finite.Reads as all-finite-reads
 
 all-finite-requires : tie.Need-all-finite-requires
 all-finite-requires c κs = search needs

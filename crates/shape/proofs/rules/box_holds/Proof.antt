@@ -10,10 +10,6 @@ use Rattle.shape.proofs.OnlyIf.{skipped, decides}
 use borrow.Author.Needs.{needs}
 use Rattle.shape.proofs.rules.box_holds.Statement.{statement}
 use Rattle.shape.proofs.rules.box_holds.Tie as tie
-use Rattle.shape.proofs.rules.box_holds.Reads as reads
-use Rattle.shape.proofs.rules.box_holds.Lts as lts
-use Rattle.extent.proofs.boxes.box_of.Reads as box-of-reads
-use Rattle.extent.proofs.boxes.same_value.Reads as same-value-reads
 
 returns : tie.Need-returns
 unfolding boxHolds
@@ -27,7 +23,7 @@ same-value-requires c κs = let s = c .before .before .before .before in (s .pre
 
 returns-2 : tie.Need-returns-2
 unfolding boxHolds
-returns-2 c = 
+returns-2 c =
     let a = c .before .before .before .before .before .args in
     decides _ _ _ (lt-ltb 0 (length (a .xs .now)) (omega arith)) (c .same-value .ensures ∙ ap (λ (q : Bounds). sameBox (patterns (a .b)) q) (c .before .box-of .ensures))
 

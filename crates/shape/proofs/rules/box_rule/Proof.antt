@@ -7,10 +7,6 @@ use Rattle.shape.specs.Rules.{boxRule}
 use borrow.Author.Needs.{needs}
 use Rattle.shape.proofs.rules.box_rule.Statement.{statement}
 use Rattle.shape.proofs.rules.box_rule.Tie as tie
-use Rattle.shape.proofs.rules.box_rule.Reads as reads
-use Rattle.shape.proofs.rules.box_rule.Lts as lts
-use Rattle.answer.proofs.Verdict.of.Reads as of-reads
-use Rattle.shape.proofs.rules.box_holds.Reads as box-holds-reads
 
 box-holds-requires : tie.Need-box-holds-requires
 box-holds-requires c κs = search needs

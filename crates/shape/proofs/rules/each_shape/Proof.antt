@@ -4,18 +4,17 @@ use Prim.Native.Nat.{ℕ, _+_, _-_, _≤_, _<_}
 use native.Mathlib.Omega.{arith}
 use borrow.Author.Tests.{not-true, not-false}
 use lib.ListN.{length, getD, take, drop}
+use Rattle.types.specs.Every.{allOf}
 use Rattle.types.specs.Parts.{total}
+use Rattle.types.proofs.Alls.{all-more, all-stop, all-here, all-done}
+use Rattle.shape.specs.Outline.{outlinesOf}
 use Rattle.shape.specs.Which.{testOf, readyFor}
-use Rattle.shape.proofs.Walking.{Walking, walking-none, walking-counted, walking-table, walking-parts, walking-there, walking-cut, walking-more, walking-stop, walking-passes, walking-done}
+use Rattle.shape.proofs.Walking.{Walking, walking-none, walking-counted, walking-table, walking-parts, walking-there, walking-cut, walking-stands, walking-more, walking-end}
 use Rattle.shape.proofs.rules.each_shape.Statement.{statement}
 use Rattle.shape.proofs.rules.each_shape.Tie as tie
-use Rattle.shape.proofs.rules.each_shape.Reads as reads
-use Rattle.shape.proofs.rules.each_shape.Lts as lts
-use Rattle.shape.proofs.one.shape_holds.Reads as shape-holds-reads
-use Rattle.types.proofs.parts.total.Reads as total-reads
 
 abbrev Inv-loop : tie.InvT-loop
-Inv-loop w types counts lens xs ys i₀ k₀ at₀ i k at = Walking (testOf w) types counts lens xs ys i k at × Walking (readyFor w) types counts lens xs ys i k at
+Inv-loop w types counts lens xs ys i₀ k₀ at₀ i k at = Walking types counts lens xs ys i k at × (allOf (testOf w) (drop i (outlinesOf types counts lens xs ys)) ≡ allOf (testOf w) (outlinesOf types counts lens xs ys))
 
 abbrev μ-loop : tie.MeasureT-loop
 μ-loop w types counts lens xs ys i₀ k₀ at₀ i k at = length types - i
@@ -25,14 +24,14 @@ counted : (c : tie.In-loop Inv-loop μ-loop) → c .before .loop .i < length (c 
 counted c =
     let a = c .before .before .before .before .before .before .before .args in
     let l = c .before .loop in
-    walking-counted (testOf (a .w)) (a .types .now) (a .counts .now) (a .lens .now) (a .xs .now) (a .ys .now) (l .i) (l .k) (l .at) (l .inv .0) (c .loop-test .taken)
+    walking-counted (a .types .now) (a .counts .now) (a .lens .now) (a .xs .now) (a .ys .now) (l .i) (l .k) (l .at) (l .inv .0) (c .loop-test .taken)
 
 -- its parts are there
 parts : (c : tie.In-loop Inv-loop μ-loop) → c .before .loop .k + getD (c .before .before .before .before .before .before .before .args .counts .now) (c .before .loop .i) 0 ≤ length (c .before .before .before .before .before .before .before .args .lens .now)
 parts c =
     let a = c .before .before .before .before .before .before .before .args in
     let l = c .before .loop in
-    walking-parts (testOf (a .w)) (a .types .now) (a .counts .now) (a .lens .now) (a .xs .now) (a .ys .now) (l .i) (l .k) (l .at) (l .inv .0) (c .loop-test .taken)
+    walking-parts (a .types .now) (a .counts .now) (a .lens .now) (a .xs .now) (a .ys .now) (l .i) (l .k) (l .at) (l .inv .0) (c .loop-test .taken)
 
 -- and its vertices
 inside : (c : tie.In-loop Inv-loop μ-loop)
@@ -41,19 +40,17 @@ inside : (c : tie.In-loop Inv-loop μ-loop)
 inside c =
     let a = c .before .before .before .before .before .before .before .args in
     let l = c .before .loop in
-    walking-there (testOf (a .w)) (a .types .now) (a .counts .now) (a .lens .now) (a .xs .now) (a .ys .now) (l .i) (l .k) (l .at) (l .inv .0) (c .loop-test .taken) (l .k + getD (a .counts .now) (l .i) 0) _ refl refl
+    walking-there (a .types .now) (a .counts .now) (a .lens .now) (a .xs .now) (a .ys .now) (l .i) (l .k) (l .at) (l .inv .0) (c .loop-test .taken) (l .k + getD (a .counts .now) (l .i) 0) _ refl refl
 
 -- as they were summed up
 there : (c : tie.After-total Inv-loop μ-loop) → c .before .before .before .before .loop .at + c .total .result ≤ length (c .before .before .before .before .before .before .before .before .before .before .args .xs .now)
 there c = omega (arith, inside (c .before .before .before), c .total .ensures)
 
 loop-holds : tie.Need-loop-holds Inv-loop μ-loop
-loop-holds c = 
+loop-holds c =
     let s = c .before .before .before .before .before in
-    let a = s .args in (
-      walking-none (testOf (a .w)) (a .types .now) (a .counts .now) (a .lens .now) (a .xs .now) (a .ys .now) (s .pre .0) (s .pre .1),
-      walking-none (readyFor (a .w)) (a .types .now) (a .counts .now) (a .lens .now) (a .xs .now) (a .ys .now) (s .pre .0) (s .pre .1),
-    )
+    let a = s .args in
+    (walking-none (a .types .now) (a .counts .now) (a .lens .now) (a .xs .now) (a .ys .now) (s .pre .0) (s .pre .1), refl)
 
 mul-e : tie.Need-mul-e Inv-loop μ-loop
 mul-e c = omega (arith, counted c)
@@ -131,11 +128,10 @@ shape-holds-requires c κs =
     let t = c .before .before .before .before .before .before .before .loop-test .taken in
     let e = l .k + getD (a .counts .now) (l .i) 0 in
     let end = l .at + c .before .before .before .before .total .result in
-    let g = ap (λ (n : ℕ). l .at + n) (c .before .before .before .before .total .ensures) in
-    (
-      walking-table (testOf (a .w)) (a .types .now) (a .counts .now) (a .lens .now) (a .xs .now) (a .ys .now) (l .i) (l .k) (l .at) (l .inv .0) t .known,
-      walking-cut (testOf (a .w)) (a .types .now) (a .counts .now) (a .lens .now) (a .xs .now) (a .ys .now) (l .i) (l .k) (l .at) (l .inv .0) t e end refl g,
-      walking-passes (readyFor (a .w)) (a .types .now) (a .counts .now) (a .lens .now) (a .xs .now) (a .ys .now) (l .i) (l .k) (l .at) (l .inv .1) t e end refl g (c .before .before .before .before .before .before .before .before .before .before .before .before .before .before .pre .2),
+    let g = ap (λ (n : ℕ). l .at + n) (c .before .before .before .before .total .ensures) in (
+      walking-table (a .types .now) (a .counts .now) (a .lens .now) (a .xs .now) (a .ys .now) (l .i) (l .k) (l .at) (l .inv .0) t .known,
+      walking-cut (a .types .now) (a .counts .now) (a .lens .now) (a .xs .now) (a .ys .now) (l .i) (l .k) (l .at) (l .inv .0) t e end refl g,
+      all-here (readyFor (a .w)) (outlinesOf (a .types .now) (a .counts .now) (a .lens .now) (a .xs .now) (a .ys .now)) (l .i) _ (walking-stands (a .types .now) (a .counts .now) (a .lens .now) (a .xs .now) (a .ys .now) (l .i) (l .k) (l .at) (l .inv .0) t e end refl g) (c .before .before .before .before .before .before .before .before .before .before .before .before .before .before .pre .2),
     )
 
 returns : tie.Need-returns Inv-loop μ-loop
@@ -146,7 +142,7 @@ returns c =
     let e = l .k + getD (a .counts .now) (l .i) 0 in
     let end = l .at + c .before .before .before .before .before .before .total .result in
     let g = ap (λ (n : ℕ). l .at + n) (c .before .before .before .before .before .before .total .ensures) in
-    walking-stop (testOf (a .w)) (a .types .now) (a .counts .now) (a .lens .now) (a .xs .now) (a .ys .now) (l .i) (l .k) (l .at) (l .inv .0) t e end refl g (sym (c .before .shape-holds .ensures) ∙ not-true _ (c .if1 .taken))
+    all-stop (testOf (a .w)) (outlinesOf (a .types .now) (a .counts .now) (a .lens .now) (a .xs .now) (a .ys .now)) (l .i) _ (walking-stands (a .types .now) (a .counts .now) (a .lens .now) (a .xs .now) (a .ys .now) (l .i) (l .k) (l .at) (l .inv .0) t e end refl g) (sym (c .before .shape-holds .ensures) ∙ not-true _ (c .if1 .taken)) (l .inv .1)
 
 add-i : tie.Need-add-i Inv-loop μ-loop
 add-i c = omega arith
@@ -161,17 +157,16 @@ loop-again c =
     let t = c .before .before .before .before .before .before .before .before .before .loop-test .taken in
     let e = l .k + getD (a .counts .now) (l .i) 0 in
     let end = l .at + c .before .before .before .before .before .before .total .result in
-    let g = ap (λ (n : ℕ). l .at + n) (c .before .before .before .before .before .before .total .ensures) in
-    (
-      walking-more (testOf (a .w)) (a .types .now) (a .counts .now) (a .lens .now) (a .xs .now) (a .ys .now) (l .i) (l .k) (l .at) (l .inv .0) t e end refl g (sym (c .before .shape-holds .ensures) ∙ not-false _ (c .if1 .left)),
-      walking-more (readyFor (a .w)) (a .types .now) (a .counts .now) (a .lens .now) (a .xs .now) (a .ys .now) (l .i) (l .k) (l .at) (l .inv .1) t e end refl g (walking-passes (readyFor (a .w)) (a .types .now) (a .counts .now) (a .lens .now) (a .xs .now) (a .ys .now) (l .i) (l .k) (l .at) (l .inv .1) t e end refl g (c .before .before .before .before .before .before .before .before .before .before .before .before .before .before .before .before .pre .2)),
+    let g = ap (λ (n : ℕ). l .at + n) (c .before .before .before .before .before .before .total .ensures) in (
+      walking-more (a .types .now) (a .counts .now) (a .lens .now) (a .xs .now) (a .ys .now) (l .i) (l .k) (l .at) (l .inv .0) t e end refl g,
+      all-more (testOf (a .w)) (outlinesOf (a .types .now) (a .counts .now) (a .lens .now) (a .xs .now) (a .ys .now)) (l .i) _ (walking-stands (a .types .now) (a .counts .now) (a .lens .now) (a .xs .now) (a .ys .now) (l .i) (l .k) (l .at) (l .inv .0) t e end refl g) (sym (c .before .shape-holds .ensures) ∙ not-false _ (c .if1 .left)) (l .inv .1),
     )
 
 returns-2 : tie.Need-returns-2 Inv-loop μ-loop
 returns-2 c =
     let a = c .before .before .before .before .before .before .before .args in
     let l = c .before .loop in
-    walking-done (testOf (a .w)) (a .types .now) (a .counts .now) (a .lens .now) (a .xs .now) (a .ys .now) (l .i) (l .k) (l .at) (l .inv .0) (c .loop-test .left)
+    all-done (testOf (a .w)) (outlinesOf (a .types .now) (a .counts .now) (a .lens .now) (a .xs .now) (a .ys .now)) (l .i) (walking-end (a .types .now) (a .counts .now) (a .lens .now) (a .xs .now) (a .ys .now) (l .i) (l .k) (l .at) (l .inv .0) (c .loop-test .left)) (l .inv .1)
 
 pub each-shape-spec : {M : Type 1} → statement M
 each-shape-spec =

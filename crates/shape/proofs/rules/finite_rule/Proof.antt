@@ -7,10 +7,6 @@ use Rattle.shape.specs.Rules.{finiteRule}
 use borrow.Author.Needs.{needs}
 use Rattle.shape.proofs.rules.finite_rule.Statement.{statement}
 use Rattle.shape.proofs.rules.finite_rule.Tie as tie
-use Rattle.shape.proofs.rules.finite_rule.Reads as reads
-use Rattle.shape.proofs.rules.finite_rule.Lts as lts
-use Rattle.answer.proofs.Verdict.of.Reads as of-reads
-use Rattle.shape.proofs.rules.both_finite.Reads as both-finite-reads
 
 both-finite-requires : tie.Need-both-finite-requires
 both-finite-requires c κs = search needs

@@ -4,10 +4,6 @@ use Rattle.shape.proofs.Whiches.{ready-grid, verdict-grid}
 use borrow.Author.Needs.{needs}
 use Rattle.shape.proofs.rules.grid_rule.Statement.{statement}
 use Rattle.shape.proofs.rules.grid_rule.Tie as tie
-use Rattle.shape.proofs.rules.grid_rule.Reads as reads
-use Rattle.shape.proofs.rules.grid_rule.Lts as lts
-use Rattle.answer.proofs.Verdict.of.Reads as of-reads
-use Rattle.shape.proofs.rules.each_shape.Reads as each-shape-reads
 
 each-shape-requires : tie.Need-each-shape-requires
 each-shape-requires c κs = (c .before .before .before .before .before .pre .0, c .before .before .before .before .before .pre .1, ready-grid _)

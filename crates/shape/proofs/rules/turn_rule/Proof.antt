@@ -4,10 +4,6 @@ use Rattle.shape.proofs.Whiches.{ready-turns, verdict-turn}
 use borrow.Author.Needs.{needs}
 use Rattle.shape.proofs.rules.turn_rule.Statement.{statement}
 use Rattle.shape.proofs.rules.turn_rule.Tie as tie
-use Rattle.shape.proofs.rules.turn_rule.Reads as reads
-use Rattle.shape.proofs.rules.turn_rule.Lts as lts
-use Rattle.answer.proofs.Verdict.of.Reads as of-reads
-use Rattle.shape.proofs.rules.each_shape.Reads as each-shape-reads
 
 each-shape-requires : tie.Need-each-shape-requires
 each-shape-requires c κs = let p = c .before .before .before .before .before .pre in (p .0, p .1, ready-turns _ _ _ _ _ (p .2) (p .3))

@@ -5,8 +5,6 @@ use Rattle.types.specs.Parts.{fits}
 use Rattle.types.proofs.Both.{first-fails, then}
 use Rattle.types.proofs.parts.fits.Statement.{statement}
 use Rattle.types.proofs.parts.fits.Tie as tie
-use Rattle.types.proofs.parts.fits.Reads as reads
-use Rattle.types.proofs.parts.fits.Lts as lts
 
 returns : tie.Need-returns
 unfolding fits

@@ -9,9 +9,6 @@ use Rattle.types.specs.Parts.{shapeAgrees}
 use Rattle.types.proofs.Agreeing.{part-to-end, Agreeing, agree-uneven, agreeing-none, agreeing-more, agreeing-stop, agreeing-done}
 use Rattle.types.proofs.parts.parts_agree.Statement.{statement}
 use Rattle.types.proofs.parts.parts_agree.Tie as tie
-use Rattle.types.proofs.parts.parts_agree.Reads as reads
-use Rattle.types.proofs.parts.parts_agree.Lts as lts
-use Rattle.types.proofs.parts.shape_agrees.Reads as shape-agrees-reads
 
 abbrev Inv-loop : tie.InvT-loop
 Inv-loop types counts lens i₀ k₀ i k = (i ≤ length types) × (length types ≡ length counts) × Agreeing types counts lens i k

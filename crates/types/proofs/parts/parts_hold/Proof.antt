@@ -5,10 +5,6 @@ use Rattle.types.proofs.Both.{first-fails, then}
 use borrow.Author.Needs.{needs}
 use Rattle.types.proofs.parts.parts_hold.Statement.{statement}
 use Rattle.types.proofs.parts.parts_hold.Tie as tie
-use Rattle.types.proofs.parts.parts_hold.Reads as reads
-use Rattle.types.proofs.parts.parts_hold.Lts as lts
-use Rattle.types.proofs.parts.parts_agree.Reads as parts-agree-reads
-use Rattle.types.proofs.parts.sum_is.Reads as sum-is-reads
 
 parts-agree-requires : tie.Need-parts-agree-requires
 parts-agree-requires c κs = search needs

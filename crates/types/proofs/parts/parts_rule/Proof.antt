@@ -7,10 +7,6 @@ use Rattle.types.specs.Parts.{partsRule}
 use borrow.Author.Needs.{needs}
 use Rattle.types.proofs.parts.parts_rule.Statement.{statement}
 use Rattle.types.proofs.parts.parts_rule.Tie as tie
-use Rattle.types.proofs.parts.parts_rule.Reads as reads
-use Rattle.types.proofs.parts.parts_rule.Lts as lts
-use Rattle.answer.proofs.Verdict.of.Reads as of-reads
-use Rattle.types.proofs.parts.parts_hold.Reads as parts-hold-reads
 
 parts-hold-requires : tie.Need-parts-hold-requires
 parts-hold-requires c κs = search needs

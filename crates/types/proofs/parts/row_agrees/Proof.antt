@@ -7,10 +7,6 @@ use Rattle.types.proofs.Both.{first-fails, then}
 use borrow.Author.Needs.{needs}
 use Rattle.types.proofs.parts.row_agrees.Statement.{statement}
 use Rattle.types.proofs.parts.row_agrees.Tie as tie
-use Rattle.types.proofs.parts.row_agrees.Reads as reads
-use Rattle.types.proofs.parts.row_agrees.Lts as lts
-use Rattle.types.proofs.parts.fits.Reads as fits-reads
-use Rattle.types.proofs.parts.lengths_fit.Reads as lengths-fit-reads
 
 fits-requires : tie.Need-fits-requires
 fits-requires c κs = search needs

@@ -7,10 +7,6 @@ use Rattle.types.proofs.Both.{first-fails, then}
 use borrow.Author.Needs.{needs}
 use Rattle.types.proofs.parts.shape_agrees.Statement.{statement}
 use Rattle.types.proofs.parts.shape_agrees.Tie as tie
-use Rattle.types.proofs.parts.shape_agrees.Reads as reads
-use Rattle.types.proofs.parts.shape_agrees.Lts as lts
-use Rattle.types.proofs.parts.row_agrees.Reads as row-agrees-reads
-use Rattle.types.proofs.rows.row_of.Reads as row-of-reads
 
 row-of-requires : tie.Need-row-of-requires
 row-of-requires c κs = search needs

@@ -8,8 +8,6 @@ use Rattle.types.specs.Parts.{total}
 use Rattle.types.proofs.Sums.{total-from, total-end, spent}
 use Rattle.types.proofs.parts.sum_is.Statement.{statement}
 use Rattle.types.proofs.parts.sum_is.Tie as tie
-use Rattle.types.proofs.parts.sum_is.Reads as reads
-use Rattle.types.proofs.parts.sum_is.Lts as lts
 
 abbrev Inv-loop : tie.InvT-loop
 Inv-loop lens v left₀ i₀ left i = (i ≤ length lens) × (left + total lens ≡ total (drop i lens) + v)

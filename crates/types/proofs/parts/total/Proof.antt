@@ -7,8 +7,6 @@ use Rattle.types.specs.Parts.{total}
 use Rattle.types.proofs.Sums.{total-from, total-end}
 use Rattle.types.proofs.parts.total.Statement.{statement}
 use Rattle.types.proofs.parts.total.Tie as tie
-use Rattle.types.proofs.parts.total.Reads as reads
-use Rattle.types.proofs.parts.total.Lts as lts
 
 abbrev Inv-loop : tie.InvT-loop
 Inv-loop lens sum₀ i₀ sum i = (i ≤ length lens) × (sum + total (drop i lens) ≡ total lens)

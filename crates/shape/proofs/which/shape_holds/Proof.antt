@@ -1,14 +1,9 @@
--- `shape::one::shape_holds` makes the test of the rule asked for. Assumes nothing.
+-- `shape::which::shape_holds` makes the test of the rule asked for. Assumes nothing.
 use mathlib.Core.Path.{sym, _∙_}
 use Rattle.shape.proofs.Whiches.{test-ring, test-grid, test-turn, ready-turn}
 use borrow.Author.Needs.{needs}
-use Rattle.shape.proofs.one.shape_holds.Statement.{statement}
-use Rattle.shape.proofs.one.shape_holds.Tie as tie
-use Rattle.shape.proofs.one.shape_holds.Reads as reads
-use Rattle.shape.proofs.one.shape_holds.Lts as lts
-use Rattle.shape.proofs.one.on_grid_shape.Reads as on-grid-shape-reads
-use Rattle.shape.proofs.one.rings_closed.Reads as rings-closed-reads
-use Rattle.shape.proofs.one.turns_hold.Reads as turns-hold-reads
+use Rattle.shape.proofs.which.shape_holds.Statement.{statement}
+use Rattle.shape.proofs.which.shape_holds.Tie as tie
 
 enum-told : tie.Need-enum-told
 enum-told c = search needs

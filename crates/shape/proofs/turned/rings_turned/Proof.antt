@@ -1,4 +1,4 @@
--- `shape::one::rings_turned` tests the first ring, and then the others over the parts of the lists that are left. Assumes nothing.
+-- `shape::turned::rings_turned` tests the first ring, and then the others over the parts of the lists that are left. Assumes nothing.
 use mathlib.Core.Path.{_≡_, sym, ap, _∙_}
 use Prim.Native.Nat.{_≤_, _<_}
 use native.Mathlib.Omega.{arith}
@@ -8,13 +8,8 @@ use Rattle.grid.specs.Turn.{turnOf, clockwise}
 use Rattle.shape.proofs.Cuts.{gridded-part, turn-back}
 use Rattle.shape.proofs.Turning.{turned-none, first-there, cut-rest, gridded-rest, turned-rest, turned-wrong}
 use borrow.Author.Needs.{needs}
-use Rattle.shape.proofs.one.rings_turned.Statement.{statement}
-use Rattle.shape.proofs.one.rings_turned.Tie as tie
-use Rattle.shape.proofs.one.rings_turned.Reads as reads
-use Rattle.shape.proofs.one.rings_turned.Lts as lts
-use Rattle.grid.proofs.turning.clockwise.Reads as clockwise-reads
-use Rattle.grid.proofs.turning.turn.Reads as turn-reads
-use Rattle.shape.proofs.one.all_turned.Reads as all-turned-reads
+use Rattle.shape.proofs.turned.rings_turned.Statement.{statement}
+use Rattle.shape.proofs.turned.rings_turned.Tie as tie
 
 -- there is a ring
 some : (c : tie.After-shared-slice-known4) → 0 < length (c .before .before .before .before .before .args .lens .now)

@@ -1,20 +1,20 @@
--- `shape::one::all_closed` tests each part: those to come, with the vertices to come, decide. Assumes nothing.
+-- `shape::ring::all_closed` tests each part: those to come, with the vertices to come, decide. Assumes nothing.
 use mathlib.Core.Path.{_≡_, refl, sym, _∙_}
 use Prim.Native.Nat.{_+_, _-_, _≤_}
 use native.Mathlib.Omega.{arith}
 use borrow.Author.Tests.{not-true, not-false}
-use lib.ListN.{length, getD}
+use lib.ListN.{length, getD, drop}
+use Rattle.types.specs.Every.{allOf}
+use Rattle.types.proofs.Alls.{all-more, all-stop, all-done}
+use Rattle.shape.specs.Outline.{partsOf}
 use Rattle.shape.specs.Rules.{closedRing}
 use Rattle.shape.proofs.Cuts.{same-part}
-use Rattle.shape.proofs.Parting.{Parting, parting-none, parting-there, parting-more, parting-stop, parting-done}
-use Rattle.shape.proofs.one.all_closed.Statement.{statement}
-use Rattle.shape.proofs.one.all_closed.Tie as tie
-use Rattle.shape.proofs.one.all_closed.Reads as reads
-use Rattle.shape.proofs.one.all_closed.Lts as lts
-use Rattle.shape.proofs.one.closed_ring.Reads as closed-ring-reads
+use Rattle.shape.proofs.Parting.{Parting, parting-none, parting-there, parting-stands, parting-more, parting-end}
+use Rattle.shape.proofs.ring.all_closed.Statement.{statement}
+use Rattle.shape.proofs.ring.all_closed.Tie as tie
 
 abbrev Inv-loop : tie.InvT-loop
-Inv-loop lens xs ys i₀ at₀ i at = Parting closedRing lens xs ys i at
+Inv-loop lens xs ys i₀ at₀ i at = Parting lens xs ys i at × (allOf closedRing (drop i (partsOf lens xs ys)) ≡ allOf closedRing (partsOf lens xs ys))
 
 abbrev μ-loop : tie.MeasureT-loop
 μ-loop lens xs ys i₀ at₀ i at = length lens - i
@@ -24,10 +24,10 @@ there : (c : tie.After-shared-slice-known4 Inv-loop μ-loop) → c .before .befo
 there c =
     let a = c .before .before .before .before .before .before .args in
     let l = c .before .before .loop in
-    parting-there closedRing (a .lens .now) (a .xs .now) (a .ys .now) (l .i) (l .at) _ (l .inv) (c .before .loop-test .taken) refl
+    parting-there (a .lens .now) (a .xs .now) (a .ys .now) (l .i) (l .at) _ (l .inv .0) (c .before .loop-test .taken) refl
 
 loop-holds : tie.Need-loop-holds Inv-loop μ-loop
-loop-holds c = let s = c .before .before .before in parting-none closedRing (s .args .lens .now) (s .args .xs .now) (s .args .ys .now) (s .pre)
+loop-holds c = let s = c .before .before .before in (parting-none (s .args .lens .now) (s .args .xs .now) (s .args .ys .now) (s .pre), refl)
 
 mul-end : tie.Need-mul-end Inv-loop μ-loop
 mul-end c = omega arith
@@ -63,7 +63,7 @@ part-closed-ring-start-2 : tie.Need-part-closed-ring-start-2 Inv-loop μ-loop
 part-closed-ring-start-2 c = omega arith
 
 part-closed-ring-end-2 : tie.Need-part-closed-ring-end-2 Inv-loop μ-loop
-part-closed-ring-end-2 c = let l = c .before .before .before .loop in omega (arith, there (c .before), l .inv .same)
+part-closed-ring-end-2 c = let l = c .before .before .before .loop in omega (arith, there (c .before), l .inv .0 .same)
 
 closed-ring-requires : tie.Need-closed-ring-requires Inv-loop μ-loop
 closed-ring-requires c κs =
@@ -75,7 +75,7 @@ returns : tie.Need-returns Inv-loop μ-loop
 returns c =
     let a = c .before .before .before .before .before .before .before .before .before .before .args in
     let l = c .before .before .before .before .before .before .loop in
-    parting-stop closedRing (a .lens .now) (a .xs .now) (a .ys .now) (l .i) (l .at) _ (l .inv) (c .before .before .before .before .before .loop-test .taken) refl (sym (c .before .closed-ring .ensures) ∙ not-true _ (c .if1 .taken))
+    all-stop closedRing (partsOf (a .lens .now) (a .xs .now) (a .ys .now)) (l .i) _ (parting-stands (a .lens .now) (a .xs .now) (a .ys .now) (l .i) (l .at) _ (l .inv .0) (c .before .before .before .before .before .loop-test .taken) refl) (sym (c .before .closed-ring .ensures) ∙ not-true _ (c .if1 .taken)) (l .inv .1)
 
 add-i : tie.Need-add-i Inv-loop μ-loop
 add-i c = omega arith
@@ -87,13 +87,14 @@ loop-again : tie.Need-loop-again Inv-loop μ-loop
 loop-again c =
     let a = c .before .before .before .before .before .before .before .before .before .before .args in
     let l = c .before .before .before .before .before .before .loop in
-    parting-more closedRing (a .lens .now) (a .xs .now) (a .ys .now) (l .i) (l .at) _ (l .inv) (c .before .before .before .before .before .loop-test .taken) refl (sym (c .before .closed-ring .ensures) ∙ not-false _ (c .if1 .left))
+    let t = c .before .before .before .before .before .loop-test .taken in
+    (parting-more (a .lens .now) (a .xs .now) (a .ys .now) (l .i) (l .at) _ (l .inv .0) t refl, all-more closedRing (partsOf (a .lens .now) (a .xs .now) (a .ys .now)) (l .i) _ (parting-stands (a .lens .now) (a .xs .now) (a .ys .now) (l .i) (l .at) _ (l .inv .0) t refl) (sym (c .before .closed-ring .ensures) ∙ not-false _ (c .if1 .left)) (l .inv .1))
 
 returns-2 : tie.Need-returns-2 Inv-loop μ-loop
 returns-2 c =
     let a = c .before .before .before .before .before .args in
     let l = c .before .loop in
-    parting-done closedRing (a .lens .now) (a .xs .now) (a .ys .now) (l .i) (l .at) (l .inv) (c .loop-test .left)
+    all-done closedRing (partsOf (a .lens .now) (a .xs .now) (a .ys .now)) (l .i) (parting-end (a .lens .now) (a .xs .now) (a .ys .now) (l .i) (l .at) (l .inv .0) (c .loop-test .left)) (l .inv .1)
 
 pub all-closed-spec : {M : Type 1} → statement M
 all-closed-spec =

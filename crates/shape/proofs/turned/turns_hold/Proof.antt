@@ -1,14 +1,11 @@
--- `shape::one::turns_hold` tests the rings of a MultiPolygon, and of no other shape. Assumes nothing.
+-- `shape::turned::turns_hold` tests the rings of a MultiPolygon, and of no other shape. Assumes nothing.
 use borrow.Author.Tests.{eq-eqb, ne-eqb}
 use Rattle.types.proofs.Both.{both-l, both-r}
 use Rattle.grid.specs.Grid.{allOnGrid}
 use Rattle.shape.specs.Rules.{onGridShape, turnsHold}
 use Rattle.shape.proofs.OnlyIf.{skipped, decides, decided}
-use Rattle.shape.proofs.one.turns_hold.Statement.{statement}
-use Rattle.shape.proofs.one.turns_hold.Tie as tie
-use Rattle.shape.proofs.one.turns_hold.Reads as reads
-use Rattle.shape.proofs.one.turns_hold.Lts as lts
-use Rattle.shape.proofs.one.rings_turned.Reads as rings-turned-reads
+use Rattle.shape.proofs.turned.turns_hold.Statement.{statement}
+use Rattle.shape.proofs.turned.turns_hold.Tie as tie
 
 rings-turned-requires : tie.Need-rings-turned-requires
 unfolding onGridShape

@@ -1,15 +1,12 @@
--- `shape::one::on_grid_shape` tests the coordinates of a MultiPolygon, and of no other shape. Assumes nothing.
+-- `shape::ongrid::on_grid_shape` tests the coordinates of a MultiPolygon, and of no other shape. Assumes nothing.
 use mathlib.Core.Path.{sym, _∙_}
 use borrow.Author.Tests.{eq-eqb, ne-eqb}
 use Rattle.types.proofs.Both.{first-fails, then}
 use Rattle.shape.specs.Rules.{onGridShape}
 use Rattle.shape.proofs.OnlyIf.{skipped, decides}
 use borrow.Author.Needs.{needs}
-use Rattle.shape.proofs.one.on_grid_shape.Statement.{statement}
-use Rattle.shape.proofs.one.on_grid_shape.Tie as tie
-use Rattle.shape.proofs.one.on_grid_shape.Reads as reads
-use Rattle.shape.proofs.one.on_grid_shape.Lts as lts
-use Rattle.grid.proofs.whole.all_on_grid.Reads as all-on-grid-reads
+use Rattle.shape.proofs.ongrid.on_grid_shape.Statement.{statement}
+use Rattle.shape.proofs.ongrid.on_grid_shape.Tie as tie
 
 all-on-grid-requires : tie.Need-all-on-grid-requires
 all-on-grid-requires c κs = search needs

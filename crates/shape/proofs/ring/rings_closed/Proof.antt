@@ -1,16 +1,11 @@
--- `shape::one::rings_closed` tests the parts where those of the type are closed. Assumes nothing.
+-- `shape::ring::rings_closed` tests the parts where those of the type are closed. Assumes nothing.
 use mathlib.Core.Path.{sym, ap, _∙_}
-use mathlib.Core.Bool.{Bool}
 use Rattle.types.specs.declared.rows.Row.{Row}
 use Rattle.shape.specs.Rules.{ringsClosed}
 use Rattle.shape.proofs.OnlyIf.{skipped, decides}
 use borrow.Author.Needs.{needs}
-use Rattle.shape.proofs.one.rings_closed.Statement.{statement}
-use Rattle.shape.proofs.one.rings_closed.Tie as tie
-use Rattle.shape.proofs.one.rings_closed.Reads as reads
-use Rattle.shape.proofs.one.rings_closed.Lts as lts
-use Rattle.shape.proofs.one.all_closed.Reads as all-closed-reads
-use Rattle.types.proofs.rows.row_of.Reads as row-of-reads
+use Rattle.shape.proofs.ring.rings_closed.Statement.{statement}
+use Rattle.shape.proofs.ring.rings_closed.Tie as tie
 
 row-of-requires : tie.Need-row-of-requires
 row-of-requires c κs = search needs

@@ -1,16 +1,12 @@
--- `shape::one::ring_turned` says whether a ring's turn is not zero. Assumes nothing.
+-- `shape::turned::ring_turned` says whether a ring's turn is not zero. Assumes nothing.
 use mathlib.Core.Path.{ap, _∙_}
 use mathlib.Core.Bool.{not}
 use Rattle.grid.specs.Turn.{zeroTurn}
 use Rattle.shape.specs.Rules.{turned, ringTurn}
 use Rattle.shape.proofs.Cuts.{turn-back}
 use borrow.Author.Needs.{needs}
-use Rattle.shape.proofs.one.ring_turned.Statement.{statement}
-use Rattle.shape.proofs.one.ring_turned.Tie as tie
-use Rattle.shape.proofs.one.ring_turned.Reads as reads
-use Rattle.shape.proofs.one.ring_turned.Lts as lts
-use Rattle.grid.proofs.turning.no_turn.Reads as no-turn-reads
-use Rattle.grid.proofs.turning.turn.Reads as turn-reads
+use Rattle.shape.proofs.turned.ring_turned.Statement.{statement}
+use Rattle.shape.proofs.turned.ring_turned.Tie as tie
 
 turn-requires : tie.Need-turn-requires
 turn-requires c κs = let g = c .before .before .pre in (g .same, g .few, g .grid-x, g .grid-y)

@@ -1,10 +1,8 @@
--- `shape::one::closed_ring` compares the first and the last vertex, x and then y. Assumes nothing.
+-- `shape::ring::closed_ring` compares the first and the last vertex, x and then y. Assumes nothing.
 use Rattle.shape.proofs.Rings.{ring-none, ring-x, ring-open}
 use borrow.Author.Needs.{needs}
-use Rattle.shape.proofs.one.closed_ring.Statement.{statement}
-use Rattle.shape.proofs.one.closed_ring.Tie as tie
-use Rattle.shape.proofs.one.closed_ring.Reads as reads
-use Rattle.shape.proofs.one.closed_ring.Lts as lts
+use Rattle.shape.proofs.ring.closed_ring.Statement.{statement}
+use Rattle.shape.proofs.ring.closed_ring.Tie as tie
 
 returns : tie.Need-returns
 returns c = ring-none _ _ (c .before .pre) (c .if1 .taken)

@@ -1,0 +1,67 @@
+// A page's contents, read into a scratch that the caller lends: "each rule over the page before the next: 11, x column, y column, 12, 13, 14, 15,
+// 16". The columns are decoded once.
+ghost use mathlib.Core.Path.{_≡_};
+ghost use mathlib.Core.Bool.{true};
+ghost use Prim.Native.Nat.{ℕ, _≤_};
+ghost use lib.ListN.{length};
+ghost use Rattle.answer.specs.Outcome.{ok, on};
+ghost use Rattle.answer.specs.Rule.{judged};
+ghost use Rattle.extent.specs.Boxes.{patterns, FiniteBox};
+ghost use Rattle.types.specs.Parts.{partsHold};
+ghost use Rattle.frame.specs.Head.{headOf};
+ghost use Rattle.shape.specs.Outline.{outlinesOf};
+ghost use Rattle.shape.specs.Rules.{boxRule};
+ghost use Rattle.page.specs.Contents.{outlineRules};
+ghost use Rattle.page.specs.Loaded.{Loads};
+use crate::columns::columns;
+use crate::rules::outline_rules;
+use answer::Verdict;
+use extent::boxes::Box;
+use frame::head::Head;
+use le::run::read_u16s;
+use shape::rules::box_rule;
+use types::parts::parts_rule;
+
+// 12 to 16 over a page's shapes. Rule 11 has passed.
+fn page_rules(
+    bounds: Box,
+    types: &[u8],
+    counts: &[u16],
+    lens: &[u16],
+    xs: &[u64],
+    ys: &[u64],
+) -> Verdict
+    requires { ⌜ FiniteBox (patterns bounds) × (partsHold (now types) (now counts) (now lens) (length (now xs)) ≡ true) × (length (now ys) ≡ length (now xs)) × (length (now xs) ≤ 2048) ⌝ }
+    ensures { λ r. ⌜ judged r ≡ on (outlineRules (outlinesOf (now (types .entry)) (now (counts .entry)) (now (lens .entry)) (now (xs .entry)) (now (ys .entry))) (now (xs .entry)) (now (ys .entry))) (λ _. boxRule (patterns bounds) (now (xs .entry)) (now (ys .entry))) ⌝ }
+{
+    if let Verdict::Refused(w) = outline_rules(types, counts, lens, xs, ys) {
+        return Verdict::Refused(w);
+    }
+    box_rule(bounds, xs, ys)
+}
+
+// The contents of a page with a head that was read from its body. The scratch has room for exactly as many part counts, part lengths and
+// vertices as the head says.
+pub fn load(
+    b: &[u8],
+    h: Head,
+    counts: &mut [u16],
+    lens: &mut [u16],
+    xs: &mut [u64],
+    ys: &mut [u64],
+) -> Verdict
+    requires { ⌜ ((e : ℕ) × (headOf e (now b) ≡ ok h)) × (length (now counts) ≡ h .g) × (length (now lens) ≡ h .p) × (length (now xs) ≡ h .v) × (length (now ys) ≡ h .v) ⌝ }
+    ensures { λ r. ⌜ Loads h (now (b .entry)) r (now (counts .exit)) (now (lens .exit)) (now (xs .exit)) (now (ys .exit)) ⌝ }
+{
+    read_u16s(b, h.layout.counts, counts);
+    read_u16s(b, h.layout.lens, lens);
+    let from = h.layout.types;
+    let to = from + h.g;
+    if let Verdict::Refused(w) = parts_rule(&b[from..to], counts, lens, h.v) {
+        return Verdict::Refused(w);
+    }
+    if let Verdict::Refused(w) = columns(b, h, xs, ys) {
+        return Verdict::Refused(w);
+    }
+    page_rules(h.bounds, &b[from..to], counts, lens, xs, ys)
+}
