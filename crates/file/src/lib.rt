@@ -1,0 +1,3 @@
+// A file: the full check.
+pub mod check;
+mod scratch;
