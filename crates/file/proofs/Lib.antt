@@ -1,1 +1,3 @@
 pub mod Opening
+pub mod Rests
+pub mod Checks

@@ -1,0 +1,118 @@
+-- What is left of a file from a cursor on: one law for each turn of the walk over its pages. Assumes nothing.
+use Prim.Native.Nat.{ℕ, suc, _+_, _-_, _≤_, _<_}
+use mathlib.Core.Path.{_≡_, refl, sym, ap, ap₂, _∙_}
+use mathlib.Core.List.{List, [], _∷_, _++_}
+use native.Mathlib.Numerals.{add-one}
+use Rattle.answer.specs.Outcome.{Out, refused, ok, on, inPage}
+use Rattle.answer.specs.Refusal.{onPage}
+use Rattle.answer.specs.Rule.{judged, passed}
+use Rattle.answer.specs.declared.Refusal.{Refusal}
+use Rattle.answer.specs.declared.Verdict.{Verdict}
+use Rattle.answer.specs.declared.Verdict.the-variants.{Holds, Refused}
+use Rattle.answer.proofs.Rules.{judged-refused, passed-ok, passed-refused, passed-on, holds-passed, refused-passed}
+use Rattle.frame.specs.declared.cursor.Cursor.{Cursor}
+use Rattle.frame.specs.declared.cursor.PageAt.{PageAt}
+use Rattle.frame.specs.declared.cursor.Step.{Step}
+use Rattle.frame.specs.declared.cursor.Step.the-variants as step
+use Rattle.frame.specs.Head.{headOf}
+use Rattle.frame.specs.Said.{saidStep}
+use Rattle.frame.proofs.Steps.{page-said, end-said, refusal-said}
+use lib.ListN.{length}
+use Rattle.frame.specs.Step.{page, end, part, firstOf, stepOf}
+use Rattle.frame.specs.Frame.{Page, Frame, pageOf, walk, frameOf}
+use Rattle.frame.proofs.Found.{page-is}
+use Rattle.frame.proofs.Walks.{pages-on}
+use Rattle.frame.proofs.Ahead.{Ahead, ahead-first, ahead-page, ahead-end, ahead-never, ahead-fewer}
+use Rattle.shape.specs.Outline.{Shape}
+use Rattle.page.specs.Contents.{contentsOf}
+use Rattle.page.proofs.Orders.{on-refused, on-value}
+use Rattle.file.specs.File.{pagesOf, restOf, shapesIn}
+
+-- ---- the shapes of pages, by the first
+
+module _ (k : ℕ) (p : Page) (ps : List Page) where
+  -- its contents are refused: so are the pages, with its page
+  pub pages-refused : (w : Refusal) → contentsOf (p .head) (p .body) ≡ refused w → pagesOf k (p ∷ ps) ≡ refused (onPage k w)
+  unfolding pagesOf inPage on
+  pages-refused w e = rw e
+
+  -- they are read: the rest decides
+  pub pages-first : (here : List Shape) → contentsOf (p .head) (p .body) ≡ ok here
+      → pagesOf k (p ∷ ps) ≡ on (pagesOf (suc k) ps) (λ rest. ok (here ++ rest))
+  unfolding pagesOf inPage on
+  pages-first here e = rw e
+
+-- ---- from a cursor on
+
+module _ (s : List ℕ) (c : Cursor) (ps : List Page) (a : Ahead s c ps) where
+  -- what is to come
+  pub rest-is : restOf s c ≡ pagesOf (c .pages) ps
+  unfolding restOf
+  rest-is = on-value (walk (1025 - c .pages) s c) _ ps (a .walked)
+
+  -- at the end nothing
+  pub rest-end : stepOf s c ≡ ok end → judged Holds ≡ passed (restOf s c)
+  unfolding pagesOf
+  rest-end e = passed-ok [] (rest-is ∙ ap (pagesOf (c .pages)) (ahead-end s c ps a e))
+
+  module _ (p : PageAt) (e : stepOf s c ≡ ok (page p)) where
+    contents : Out (List Shape)
+    contents = contentsOf (p .head) (part s (p .body) (p .len))
+
+    -- a page that is refused
+    pub rest-refused : (w : Refusal) → judged (Refused w) ≡ passed (contentsOf (p .head) (part s (p .body) (p .len)))
+        → judged (Refused (onPage (c .pages) w)) ≡ passed (restOf s c)
+    rest-refused w j =
+        let k = ahead-page s c ps a p e in
+        passed-refused (onPage (c .pages) w)
+        (rest-is ∙ ap (pagesOf (c .pages)) (k .1) ∙ pages-refused (c .pages) (pageOf s p) (k .0) w (refused-passed _ w j))
+
+    -- a page that is read: what is left decides
+    pub rest-page : judged Holds ≡ passed (contentsOf (p .head) (part s (p .body) (p .len))) → passed (restOf s c) ≡ passed (restOf s (p .next))
+    unfolding restOf
+    rest-page j =
+        let k = ahead-page s c ps a p e in
+        let h = holds-passed _ j in
+        let n : suc (c .pages) ≡ p .next .pages = sym (pages-on s c (a .within) p (page-is s c p e) ∙ add-one (c .pages)) in
+        ap passed
+        (rest-is ∙ ap (pagesOf (c .pages)) (k .1) ∙ pages-first (c .pages) (pageOf s p) (k .0) (h .0) (h .1))
+        ∙ passed-on (pagesOf (suc (c .pages)) (k .0)) (λ rest. h .0 ++ rest)
+        ∙ ap passed (ap (λ (m : ℕ). pagesOf m (k .0)) n ∙ sym (on-value (walk (1025 - p .next .pages) s (p .next)) _ (k .0) (k .2 .walked)))
+
+-- ---- the walk over the pages, as its loop keeps it
+
+pub record Going (s : List ℕ) (from c : Cursor) : Type 0 where
+  pub ahead : (ps : List Page) × Ahead s c ps
+  pub same : passed (restOf s from) ≡ passed (restOf s c)
+
+module _ (s : List ℕ) (from c : Cursor) (g : Going s from c) (r : Step) (f : saidStep r ≡ stepOf s c) where
+  -- the end
+  pub going-end : r ≡ step.End → judged Holds ≡ passed (restOf s from)
+  going-end e = rest-end s c (g .ahead .0) (g .ahead .1) (end-said s c r f e) ∙ sym (g .same)
+
+  -- no refusal of the frame
+  pub going-never : (w : Refusal) (x : Verdict) → r ≡ step.Refused w → judged x ≡ passed (restOf s from)
+  going-never w x e = absurd (ahead-never s c (g .ahead .0) (g .ahead .1) w (refusal-said s c r f w e))
+
+  module _ (p : PageAt) (e : r ≡ step.Page p) where
+    found : stepOf s c ≡ ok (page p)
+    found = page-said s c r f p e
+
+    pub going-refused : (w : Refusal) → judged (Refused w) ≡ passed (contentsOf (p .head) (part s (p .body) (p .len)))
+        → judged (Refused (onPage (c .pages) w)) ≡ passed (restOf s from)
+    going-refused w j = rest-refused s c (g .ahead .0) (g .ahead .1) p found w j ∙ sym (g .same)
+
+    pub going-on : judged Holds ≡ passed (contentsOf (p .head) (part s (p .body) (p .len))) → Going s from (p .next)
+    going-on j =
+        let k = ahead-page s c (g .ahead .0) (g .ahead .1) p found in
+        record { ahead = (k .0, k .2); same = g .same ∙ rest-page s c (g .ahead .0) (g .ahead .1) p found j }
+
+    pub going-fewer : 1025 - p .next .pages < 1025 - c .pages
+    going-fewer = ahead-fewer s c (g .ahead .0) (g .ahead .1) p found
+
+    -- the page's body lies in the file, and its head was read from it
+    pub going-fits : p .body + p .len ≤ length s
+    going-fits = page-is s c p found .stands .fits
+
+    pub going-headed : (edition : ℕ) × (headOf edition (part s (p .body) (p .len)) ≡ ok (p .head))
+    going-headed = (c .edition, page-is s c p found .headed)
