@@ -1,0 +1,25 @@
+-- `viewer::word::refusal_word` is the word of a refusal. Assumes nothing.
+use Rattle.viewer.proofs.Words.{refusal-is}
+use borrow.Author.Needs.{needs}
+use Rattle.viewer.proofs.word.refusal_word.Statement.{statement}
+use Rattle.viewer.proofs.word.refusal_word.Tie as tie
+use Rattle.viewer.proofs.word.refusal_word.Reads as reads
+use Rattle.viewer.proofs.word.refusal_word.Lts as lts
+
+cast-result : tie.Need-cast-result
+cast-result c = search needs
+
+mul-result : tie.Need-mul-result
+mul-result c = search needs
+
+cast-result-2 : tie.Need-cast-result-2
+cast-result-2 c = search needs
+
+add-result : tie.Need-add-result
+add-result c = search needs
+
+returns : tie.Need-returns
+returns c = refusal-is (c .before .before .args .w)
+
+pub refusal-word-spec : {M : Type 1} → statement M
+refusal-word-spec = tie.close (tie.spec cast-result mul-result cast-result-2 add-result returns)

@@ -1,0 +1,3 @@
+// The C face: calls on plain numbers and slices, for the reading-room viewer.
+pub mod check;
+mod word;
