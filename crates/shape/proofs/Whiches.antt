@@ -1,21 +1,22 @@
 -- Laws of the three rules that go shape by shape. Assumes nothing.
 use mathlib.Core.Path.{_≡_, refl, sym, ap, _∙_}
-use mathlib.Core.Bool.{Bool, true, _&&_}
+use mathlib.Core.Bool.{Bool, true, _&&_, not}
 use mathlib.Core.List.{List, [], _∷_}
-use Prim.Native.Nat.{ℕ, _≤_}
+use Prim.Native.Nat.{ℕ, _≤_, _<_}
 use native.Mathlib.Omega.{arith}
 use borrow.Author.Tests.{le-leb, leb-true}
-use lib.Dec.{leb}
-use lib.ListN.{length, take, drop, length-take, length-drop}
+use lib.Dec.{leb, eqb}
+use lib.ListN.{length, getD, List·getD-eq-default, take, drop, length-take, length-drop}
 use Rattle.answer.specs.Table as table
 use Rattle.answer.specs.Rule.{rule}
 use Rattle.types.specs.Every.{allOf}
+use Rattle.types.specs.Types.{empty, rows, rowOf}
 use Rattle.types.proofs.Both.{both, both-l, both-r}
 use Rattle.shape.specs.declared.which.Which.{Which}
 use Rattle.shape.specs.declared.which.Which.the-variants.{Ring, Grid, Turn}
 use Rattle.shape.specs.Outline.{Outline, verticesOf, outlineWith, outlinesOf}
 use Rattle.shape.specs.Rules.{ringsClosed, ringRule, onGridShape, gridRule, turnsHold, turnRule}
-use Rattle.shape.specs.Which.{testOf, readyFor}
+use Rattle.shape.specs.Which.{testOf, readyFor, spares}
 
 -- what each tests
 module _ (w : Which) (o : Outline) where
@@ -62,6 +63,44 @@ ready-turns (t ∷ ts) (c ∷ cs) lens xs ys h e =
     let few = le-leb (length (take n xs)) 2048 (omega (arith, length-take n xs)) in
     both (onGridShape o && leb (length (take n xs)) 2048) (allOf (readyFor Turn) os) (both (onGridShape o) (leb (length (take n xs)) 2048) (both-l (onGridShape o) (allOf onGridShape os) e) few)
     (ready-turns ts cs (drop c lens) (drop n xs) (drop n ys) (omega (arith, length-drop n xs)) (both-r (onGridShape o) (allOf onGridShape os) e))
+
+-- ---- types of which a rule says nothing
+
+pub spares-ring : (w : Which) (t : ℕ) → w ≡ Ring → spares w t ≡ not (rowOf t .closed)
+unfolding spares
+spares-ring w t e = ap (λ (v : Which). spares v t) e
+
+pub spares-grid : (w : Which) (t : ℕ) → w ≡ Grid → spares w t ≡ not (eqb t 6)
+unfolding spares
+spares-grid w t e = ap (λ (v : Which). spares v t) e
+
+pub spares-turn : (w : Which) (t : ℕ) → w ≡ Turn → spares w t ≡ not (eqb t 6)
+unfolding spares
+spares-turn w t e = ap (λ (v : Which). spares v t) e
+
+-- a type over 6 has no row, and none that is closed
+pub open-over : (t : ℕ) → 6 < t → true ≡ not (rowOf t .closed)
+unfolding rowOf
+open-over t h = let e : getD rows t empty ≡ empty = List·getD-eq-default rows empty h in rw e
+
+-- a shape of such a type passes
+pub spared : (w : Which) (o : Outline) → spares w (o .kind) ≡ true → testOf w o ≡ true
+unfolding spares testOf ringsClosed onGridShape turnsHold
+spared Ring o e = rw e
+spared Grid o e = rw e
+spared Turn o e = rw e
+
+-- so do all
+pub all-spared : (w : Which) (types counts lens xs ys : List ℕ) → allOf (spares w) types ≡ true → allOf (testOf w) (outlinesOf types counts lens xs ys) ≡ true
+unfolding outlinesOf allOf
+all-spared w [] cs lens xs ys e = refl
+all-spared w (t ∷ ts) [] lens xs ys e = refl
+all-spared w (t ∷ ts) (c ∷ cs) lens xs ys e =
+    let n = verticesOf c lens in
+    let o = outlineWith t (take c lens) (take n xs) (take n ys) in
+    both (testOf w o) (allOf (testOf w) (outlinesOf ts cs (drop c lens) (drop n xs) (drop n ys)))
+    (spared w o (both-l (spares w t) (allOf (spares w) ts) e))
+    (all-spared w ts cs (drop c lens) (drop n xs) (drop n ys) (both-r (spares w t) (allOf (spares w) ts) e))
 
 -- ---- the verdicts
 

@@ -1,7 +1,9 @@
 -- The three rules that go shape by shape, for one walk over the shapes. Assumes nothing.
-use mathlib.Core.Bool.{Bool, true, _&&_}
-use lib.Dec.{leb}
+use Prim.Native.Nat.{ℕ}
+use mathlib.Core.Bool.{Bool, true, _&&_, not}
+use lib.Dec.{leb, eqb}
 use lib.ListN.{length}
+use Rattle.types.specs.Types.{rowOf}
 use Rattle.shape.specs.declared.which.Which.{Which}
 use Rattle.shape.specs.declared.which.Which.the-variants.{Ring, Grid, Turn}
 use Rattle.shape.specs.Outline.{Outline}
@@ -18,3 +20,9 @@ unfoldable pub readyFor : Which → Outline → Bool
 readyFor Ring o = true
 readyFor Grid o = true
 readyFor Turn o = onGridShape o && leb (length (o .xs)) 2048
+
+-- of which types a rule says nothing: of open ones; of all but the MultiPolygon
+unfoldable pub spares : Which → ℕ → Bool
+spares Ring t = not (rowOf t .closed)
+spares Grid t = not (eqb t 6)
+spares Turn t = not (eqb t 6)

@@ -10,9 +10,10 @@ ghost use Rattle.extent.specs.Rank.{allFinite};
 ghost use Rattle.extent.specs.Boxes.{patterns, FiniteBox};
 ghost use Rattle.shape.specs.Outline.{outlinesOf};
 ghost use Rattle.shape.specs.Rules.{finiteRule, ringRule, onGridShape, gridRule, turnRule, boxHolds, boxRule};
-ghost use Rattle.shape.specs.Which.{testOf, readyFor};
+ghost use Rattle.shape.specs.Which.{testOf, readyFor, spares};
 use crate::which::Which;
 use crate::which::shape_holds;
+use crate::which::spares;
 use answer::Verdict;
 use answer::table::BOX;
 use answer::table::FINITE;
@@ -63,12 +64,37 @@ fn each_shape(w: Which, types: &[u8], counts: &[u16], lens: &[u16], xs: &[u64], 
     true
 }
 
+// Whether a rule says nothing of all of the types.
+fn spares_all(w: Which, types: &[u8]) -> bool
+    ensures { λ r. ⌜ r ≡ allOf (spares w) (now (types .entry)) ⌝ }
+{
+    let mut i: usize = 0;
+    while i < types.len() {
+        if !spares(w, types[i]) {
+            return false;
+        }
+        i += 1;
+    }
+    true
+}
+
+// Whether each shape passes a rule: with no walk over the shapes where it says nothing of their types.
+fn shapes_hold(w: Which, types: &[u8], counts: &[u16], lens: &[u16], xs: &[u64], ys: &[u64]) -> bool
+    requires { ⌜ (partsHold (now types) (now counts) (now lens) (length (now xs)) ≡ true) × (length (now ys) ≡ length (now xs)) × (allOf (readyFor w) (outlinesOf (now types) (now counts) (now lens) (now xs) (now ys)) ≡ true) ⌝ }
+    ensures { λ r. ⌜ r ≡ allOf (testOf w) (outlinesOf (now (types .entry)) (now (counts .entry)) (now (lens .entry)) (now (xs .entry)) (now (ys .entry))) ⌝ }
+{
+    if spares_all(w, types) {
+        return true;
+    }
+    each_shape(w, types, counts, lens, xs, ys)
+}
+
 // 13: rings are closed. Rule 11 has passed.
 pub fn ring_rule(types: &[u8], counts: &[u16], lens: &[u16], xs: &[u64], ys: &[u64]) -> Verdict
     requires { ⌜ (partsHold (now types) (now counts) (now lens) (length (now xs)) ≡ true) × (length (now ys) ≡ length (now xs)) ⌝ }
     ensures { λ r. ⌜ judged r ≡ ringRule (outlinesOf (now (types .entry)) (now (counts .entry)) (now (lens .entry)) (now (xs .entry)) (now (ys .entry))) ⌝ }
 {
-    Verdict::of(each_shape(Which::Ring, types, counts, lens, xs, ys), RING)
+    Verdict::of(shapes_hold(Which::Ring, types, counts, lens, xs, ys), RING)
 }
 
 // 14: each MultiPolygon is on grid. Rule 11 has passed.
@@ -76,7 +102,7 @@ pub fn grid_rule(types: &[u8], counts: &[u16], lens: &[u16], xs: &[u64], ys: &[u
     requires { ⌜ (partsHold (now types) (now counts) (now lens) (length (now xs)) ≡ true) × (length (now ys) ≡ length (now xs)) ⌝ }
     ensures { λ r. ⌜ judged r ≡ gridRule (outlinesOf (now (types .entry)) (now (counts .entry)) (now (lens .entry)) (now (xs .entry)) (now (ys .entry))) ⌝ }
 {
-    Verdict::of(each_shape(Which::Grid, types, counts, lens, xs, ys), GRID)
+    Verdict::of(shapes_hold(Which::Grid, types, counts, lens, xs, ys), GRID)
 }
 
 // 15: no ring of a MultiPolygon has turn zero, and the first is clockwise. Rules 11 and 14 have passed.
@@ -84,7 +110,7 @@ pub fn turn_rule(types: &[u8], counts: &[u16], lens: &[u16], xs: &[u64], ys: &[u
     requires { ⌜ (partsHold (now types) (now counts) (now lens) (length (now xs)) ≡ true) × (length (now ys) ≡ length (now xs)) × (length (now xs) ≤ 2048) × (allOf onGridShape (outlinesOf (now types) (now counts) (now lens) (now xs) (now ys)) ≡ true) ⌝ }
     ensures { λ r. ⌜ judged r ≡ turnRule (outlinesOf (now (types .entry)) (now (counts .entry)) (now (lens .entry)) (now (xs .entry)) (now (ys .entry))) ⌝ }
 {
-    Verdict::of(each_shape(Which::Turn, types, counts, lens, xs, ys), TURN)
+    Verdict::of(shapes_hold(Which::Turn, types, counts, lens, xs, ys), TURN)
 }
 
 // Whether a box is in value that of the vertices, if there are any.

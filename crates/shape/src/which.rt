@@ -1,13 +1,15 @@
 // The three rules that go shape by shape, of one shape.
 ghost use mathlib.Core.Path.{_≡_};
-ghost use mathlib.Core.Bool.{true};
+ghost use mathlib.Core.Bool.{true, not};
 ghost use Prim.Native.Nat.{_≤_};
+ghost use Rattle.types.specs.Types.{rowOf};
 ghost use Rattle.shape.specs.Outline.{outlineWith};
 ghost use Rattle.shape.specs.Ready.{Cut};
-ghost use Rattle.shape.specs.Which.{testOf, readyFor};
+ghost use Rattle.shape.specs.Which.{testOf, readyFor, spares};
 use crate::ongrid::on_grid_shape;
 use crate::ring::rings_closed;
 use crate::turned::turns_hold;
+use types::rows::row_of;
 
 // The rules that go shape by shape.
 pub enum Which {
@@ -25,5 +27,26 @@ pub fn shape_holds(w: Which, t: u8, lens: &[u16], xs: &[u64], ys: &[u64]) -> boo
         Which::Ring => rings_closed(t, lens, xs, ys),
         Which::Grid => on_grid_shape(t, lens, xs, ys),
         Which::Turn => turns_hold(t, lens, xs, ys),
+    }
+}
+
+// Whether the parts of a type are not closed, any type.
+fn open_type(t: u8) -> bool
+    ensures { λ r. ⌜ r ≡ not (rowOf t .closed) ⌝ }
+{
+    if t <= 6 {
+        return !row_of(t).closed;
+    }
+    true
+}
+
+// Whether a rule says nothing of a type, any type.
+pub fn spares(w: Which, t: u8) -> bool
+    ensures { λ r. ⌜ r ≡ spares w t ⌝ }
+{
+    match w {
+        Which::Ring => open_type(t),
+        Which::Grid => t != 6,
+        Which::Turn => t != 6,
     }
 }

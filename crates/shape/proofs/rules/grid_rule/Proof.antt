@@ -5,14 +5,14 @@ use borrow.Author.Needs.{needs}
 use Rattle.shape.proofs.rules.grid_rule.Statement.{statement}
 use Rattle.shape.proofs.rules.grid_rule.Tie as tie
 
-each-shape-requires : tie.Need-each-shape-requires
-each-shape-requires c κs = (c .before .before .before .before .before .pre .0, c .before .before .before .before .before .pre .1, ready-grid _)
+shapes-hold-requires : tie.Need-shapes-hold-requires
+shapes-hold-requires c κs = (c .before .before .before .before .before .pre .0, c .before .before .before .before .before .pre .1, ready-grid _)
 
 of-requires : tie.Need-of-requires
 of-requires c κs = search needs
 
 returns : tie.Need-returns
-returns c = c .of .ensures ∙ verdict-grid _ _ (c .before .each-shape .ensures)
+returns c = c .of .ensures ∙ verdict-grid _ _ (c .before .shapes-hold .ensures)
 
 pub grid-rule-spec : {M : Type 1} → statement M
-grid-rule-spec = tie.close (tie.spec each-shape-requires of-requires returns)
+grid-rule-spec = tie.close (tie.spec shapes-hold-requires of-requires returns)

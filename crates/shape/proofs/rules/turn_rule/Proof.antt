@@ -5,14 +5,14 @@ use borrow.Author.Needs.{needs}
 use Rattle.shape.proofs.rules.turn_rule.Statement.{statement}
 use Rattle.shape.proofs.rules.turn_rule.Tie as tie
 
-each-shape-requires : tie.Need-each-shape-requires
-each-shape-requires c κs = let p = c .before .before .before .before .before .pre in (p .0, p .1, ready-turns _ _ _ _ _ (p .2) (p .3))
+shapes-hold-requires : tie.Need-shapes-hold-requires
+shapes-hold-requires c κs = let p = c .before .before .before .before .before .pre in (p .0, p .1, ready-turns _ _ _ _ _ (p .2) (p .3))
 
 of-requires : tie.Need-of-requires
 of-requires c κs = search needs
 
 returns : tie.Need-returns
-returns c = c .of .ensures ∙ verdict-turn _ _ (c .before .each-shape .ensures)
+returns c = c .of .ensures ∙ verdict-turn _ _ (c .before .shapes-hold .ensures)
 
 pub turn-rule-spec : {M : Type 1} → statement M
-turn-rule-spec = tie.close (tie.spec each-shape-requires of-requires returns)
+turn-rule-spec = tie.close (tie.spec shapes-hold-requires of-requires returns)
