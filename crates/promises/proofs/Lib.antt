@@ -4,3 +4,4 @@ pub mod Accepted
 pub mod Determined
 pub mod Worked
 pub mod Sampled
+pub mod SoundFiles
