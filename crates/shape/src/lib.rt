@@ -1,6 +1,6 @@
 // The shapes of a page: rules 12 to 16 of its contents, over the page's lists as they were read. Parts of them are lent on, and none is copied.
-pub mod ongrid;
-pub mod ring;
+mod ongrid;
+mod ring;
 pub mod rules;
-pub mod turned;
-pub mod which;
+mod turned;
+mod which;
