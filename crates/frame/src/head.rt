@@ -34,7 +34,7 @@ pub enum HeadRead {
 }
 
 // Whether the counts are within the limits.
-fn counts_ok(g: usize, v: usize, p: usize) -> bool
+pub fn counts_ok(g: usize, v: usize, p: usize) -> bool
     ensures { λ r. ⌜ r ≡ countsOk g v p ⌝ }
 {
     if g < 1 {

@@ -1,6 +1,6 @@
 pub mod Sizes
-pub mod Ranges
-pub mod Cuts
+pub mod Casts
 pub mod OnGrid
+pub mod Digits
 pub mod Turns
 pub mod Worked

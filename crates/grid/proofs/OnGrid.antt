@@ -1,28 +1,25 @@
 -- Patterns on grid: they are finite, their whole number is within 2 ^ 24; lists of them, and parts of those. Assumes nothing.
 use mathlib.Core.Path.{_≡_, refl, sym, ap, _∙_}
-use mathlib.Core.Bool.{Bool, true, false, _&&_}
+use mathlib.Core.Bool.{Bool, true, false, _&&_, and-true, and-assoc}
 use mathlib.Core.List.{List, [], _∷_}
-use Prim.Native.Nat.{ℕ, zero, suc, _*_, _+_, _^_, _≤_, _<_}
-use native.Mathlib.Nat.{le-of-suc-le-suc}
+use Prim.Native.Nat.{ℕ, zero, suc, _+_, _^_, _≤_, _<_}
+use native.Mathlib.Nat.{le-of-suc-le-suc, add-comm}
 use native.Mathlib.Numerals.{add-one}
 use native.Mathlib.Omega.{arith}
-use lib.IntN.{natAbs}
+use borrow.Author.Tests.{eqb-true, eq-eqb}
+use lib.Bits.{bitAnd, bitOr, or-add-and, and-le-l, and-le-r}
+use lib.Dec.{T, eqb}
+use lib.IntN.{pos, natAbs}
 use lib.ListN.{length, getD, take, drop, drop-of-length-le}
 use lib.Seq.{drop-cons}
-use lib.Ieee.{Float, binary64, ofBits, toSigned}
-use lib.Ieee.Positive.{num, den}
+use lib.Ieee.{binary64, ofBits, ofFields, inSigned, toSigned}
 use Rattle.extent.specs.Rank.{finite}
-use Rattle.extent.proofs.Tests.{both, both-l, both-r, no-both}
-use Rattle.extent.proofs.Patterns.{bits-finite, bits-not-finite}
-use Rattle.grid.specs.Grid.{onGridFloat, onGrid, wholeOf, allOnGrid}
-use Rattle.grid.proofs.Cuts.{on-float-range, off-not-finite, whole-within, cut-whole}
+use Rattle.extent.proofs.Tests.{same-test, T-true, true-T, not-true, no-both, both, both-l, both-r}
+use Rattle.extent.proofs.Patterns.{bits-not-finite, bits-back}
+use Rattle.grid.specs.Grid.{onGrid, wholeOf, allOnGrid}
+use Rattle.grid.proofs.Casts.{off-not-finite, whole-within, minusZero, minus-zero-bits, cast-allowed, cast-whole}
 
 -- ---- one pattern
-
--- by its float
-pub on-grid-of : (b : ℕ) (x : Float) → x ≡ ofBits binary64 b → onGridFloat x ≡ onGrid b
-unfolding onGrid
-on-grid-of b x e = ap onGridFloat e
 
 -- an infinity or a NaN is off grid
 pub off-grid : (b : ℕ) → finite b ≡ false → onGrid b ≡ false
@@ -36,20 +33,25 @@ on-grid-finite b g = go (finite b) refl
     go true e = refl
     go false e = absurd (no-both (off-grid b e) g)
 
--- the value's size, as a fraction, is at most 2 ^ 24
-pub on-grid-range : (b : ℕ) → onGrid b ≡ true → num (ofBits binary64 b) ≤ 2 ^ 24 * den (ofBits binary64 b)
-unfolding onGrid
-on-grid-range b g = on-float-range (ofBits binary64 b) g
-
--- so is the whole number's
+-- the whole number is within 2 ^ 24
 pub whole-small : (b : ℕ) → onGrid b ≡ true → natAbs (wholeOf b) ≤ 2 ^ 24
-unfolding wholeOf
-whole-small b g = whole-within (ofBits binary64 b) (bits-finite b (on-grid-finite b g)) (on-grid-range b g)
+unfolding onGrid wholeOf
+whole-small b g = whole-within (ofBits binary64 b) g
 
--- the cut to 64 bits is the whole number
-pub cut-whole-of : (b : ℕ) → onGrid b ≡ true → toSigned 63 (ofBits binary64 b) ≡ wholeOf b
+-- but at -0, whose pattern is 2 ^ 63, the cast to 64 bits is allowed, and is the whole number
+pub cast-allowed-of : (b : ℕ) → b < 2 ^ 64 → onGrid b ≡ true → (b ≡ 2 ^ 63 → ⊥) → T (inSigned binary64 63 (ofBits binary64 b))
+unfolding onGrid
+cast-allowed-of b l g n =
+    cast-allowed (ofBits binary64 b) g
+    (not-true (minusZero (ofBits binary64 b)) (λ z. n (sym (bits-back b l (on-grid-finite b g)) ∙ minus-zero-bits (ofBits binary64 b) z)))
+
+pub cast-whole-of : (b : ℕ) → T (inSigned binary64 63 (ofBits binary64 b)) → toSigned 63 (ofBits binary64 b) ≡ wholeOf b
 unfolding wholeOf
-cut-whole-of b g = cut-whole (ofBits binary64 b) (bits-finite b (on-grid-finite b g)) (on-grid-range b g)
+cast-whole-of b t = cast-whole (ofBits binary64 b) t
+
+pub whole-of-minus-zero : (b : ℕ) → b ≡ 2 ^ 63 → pos 0 ≡ wholeOf b
+unfolding wholeOf ofBits ofFields
+whole-of-minus-zero b e = sym (ap wholeOf e)
 
 -- ---- lists
 
@@ -83,12 +85,34 @@ walk-next bs i h = ap allOnGrid (drop-cons bs i 0 h) ∙ cons (getD bs i 0) (dro
     cons : (b : ℕ) (bs : List ℕ) → allOnGrid (b ∷ bs) ≡ (onGrid b && allOnGrid bs)
     cons b bs = unfold allOnGrid in refl
 
-pub walk-off : (bs : List ℕ) (i : ℕ) → i < length bs → onGrid (getD bs i 0) ≡ false → allOnGrid (drop i bs) ≡ false
-walk-off bs i h e = walk-next bs i h ∙ ap (λ (t : Bool). t && allOnGrid (drop (i + 1) bs)) e
+-- of two numbers no bit is set, if none is of either
+none-set : (a b : ℕ) → eqb (bitOr a b) 0 ≡ (eqb a 0 && eqb b 0)
+none-set a b =
+    same-test (eqb (bitOr a b) 0) (eqb a 0 && eqb b 0)
+    (λ t. let z = eqb-true _ _ (true-T _ t) in T-true (both (eq-eqb a 0 (parts-l _ _ a b sum (and-le-r a b) z)) (eq-eqb b 0 (parts-l _ _ b a sum′ (and-le-l a b) z))))
+    (λ t. let z = true-T _ t in T-true (eq-eqb _ 0 (whole _ _ a b sum (eqb-true a 0 (both-l (eqb a 0) (eqb b 0) z)) (eqb-true b 0 (both-r (eqb a 0) (eqb b 0) z)))))
+  where
+    sum : bitOr a b + bitAnd a b ≡ a + b
+    sum = or-add-and a b
 
-pub walk-on : (bs : List ℕ) (i : ℕ) → i < length bs → onGrid (getD bs i 0) ≡ true → allOnGrid (drop i bs) ≡ allOnGrid (drop (i + 1) bs)
-walk-on bs i h e = walk-next bs i h ∙ ap (λ (t : Bool). t && allOnGrid (drop (i + 1) bs)) e
+    sum′ : bitOr a b + bitAnd a b ≡ b + a
+    sum′ = sum ∙ add-comm a b
 
-pub walk-done : (bs : List ℕ) (i : ℕ) → length bs ≤ i → allOnGrid (drop i bs) ≡ true
+    parts-l : (o n a b : ℕ) → o + n ≡ a + b → n ≤ b → o ≡ 0 → a ≡ 0
+    parts-l o n a b e h z = omega arith
+
+    whole : (o n a b : ℕ) → o + n ≡ a + b → a ≡ 0 → b ≡ 0 → o ≡ 0
+    whole o n a b e p q = omega arith
+
+-- `off` is 0 if those before i are on grid, and r if the one at i is
+pub walk-more : (bs : List ℕ) (i off r : ℕ) → i < length bs → eqb r 0 ≡ onGrid (getD bs i 0)
+    → (eqb (bitOr off r) 0 && allOnGrid (drop (i + 1) bs)) ≡ (eqb off 0 && allOnGrid (drop i bs))
+walk-more bs i off r h e =
+    ap (λ (t : Bool). t && allOnGrid (drop (i + 1) bs)) (none-set off r)
+    ∙ and-assoc (eqb off 0) (eqb r 0) (allOnGrid (drop (i + 1) bs))
+    ∙ ap (λ (t : Bool). eqb off 0 && (t && allOnGrid (drop (i + 1) bs))) e
+    ∙ ap (λ (t : Bool). eqb off 0 && t) (sym (walk-next bs i h))
+
+pub walk-done : (bs : List ℕ) (i off : ℕ) → length bs ≤ i → eqb off 0 ≡ (eqb off 0 && allOnGrid (drop i bs))
 unfolding allOnGrid
-walk-done bs i h = ap allOnGrid (drop-of-length-le bs h)
+walk-done bs i off h = sym (ap (λ (us : List ℕ). eqb off 0 && allOnGrid us) (drop-of-length-le bs h) ∙ and-true (eqb off 0))

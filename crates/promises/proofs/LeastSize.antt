@@ -5,7 +5,6 @@ use mathlib.Core.Path.{_≡_, refl, sym, ap, _∙_, subst}
 use mathlib.Core.List.{List, [], _∷_}
 use mathlib.Core.Bool.{Bool, true, false}
 use Prim.Native.Nat.{ℕ, zero, suc, _+_, _-_, _*_, _/_, _≤_, _<_}
-use native.Mathlib.Nat.{mul-suc}
 use native.Mathlib.Omega.{arith}
 use lib.Dec.{leb}
 use lib.ListN.{length}
@@ -18,9 +17,10 @@ use Rattle.answer.proofs.Outcomes.{never, refused-inj}
 use Rattle.entry.specs.Fields.{bits}
 use Rattle.width.specs.Width.{zsOf, S, widthOf}
 use Rattle.width.proofs.Least.{Least}
-use Rattle.width.proofs.Sizes.{width-least, size-most, length-zs}
+use Rattle.width.proofs.Sizes.{width-least}
 use Rattle.column.specs.Column.{whole, columnAt, encodeAt, encode}
 use Rattle.column.specs.Write.{writeOf}
+use Rattle.column.proofs.Trips as trips
 use Rattle.column.proofs.Writing.{column-bits, encode-length, encode-none, encode-is, write-many, write-room, write-bytes}
 
 -- the size in bits at width n is 8 + P + S(n), 72 + S(n) at 64
@@ -33,15 +33,11 @@ least-size = width-least
 
 -- a column takes at most 8 + PN bits
 pub bits-most : (P : ℕ) (vs : List ℕ) → 0 < length vs → bits (columnAt P (widthOf P vs) vs) ≤ 8 + P * length vs
-bits-most P vs h =
-    let e : length vs ≡ suc (length vs - 1) = omega arith in
-    omega (arith, column-bits P (widthOf P vs) vs h, size-most P vs, ap (λ (k : ℕ). P * k) (length-zs P vs), ap (λ (k : ℕ). P * k) e, mul-suc P (length vs - 1))
+bits-most = trips.bits-most
 
 -- and so at most 1 + 8N bytes
 pub bytes-most : (vs : List ℕ) → length (encode 64 vs) ≤ 1 + 8 * length vs
-unfolding encode
-bytes-most [] = omega (arith, ap length (encode-none 64 (widthOf 64 []) [] refl))
-bytes-most (v ∷ vs) = omega (arith, encode-length 64 (widthOf 64 (v ∷ vs)) (v ∷ vs), bits-most 64 (v ∷ vs) (omega arith))
+bytes-most = trips.bytes-most
 
 -- no width gives fewer bytes
 pub bytes-least : (P n : ℕ) (vs : List ℕ) → n ≤ P → length (encode P vs) ≤ length (encodeAt P n vs)

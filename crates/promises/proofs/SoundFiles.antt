@@ -62,10 +62,10 @@ module _ (h : Head) (b : List ℕ) (shapes : List Shape) (few : h .v ≤ 2048) w
       let y = column-read (yPart h b) (h .v) (p .ys) few (record { column = p .y-column; patterns = p .y-patterns; count = p .y-count; few = few; enough = le-refl (h .v) }) in
       let v : verticesOf h b ≡ ok (record { xs = p .xs; ys = p .ys }) = on-value (decodeOf 64 (xPart h b) (h .v)) _ (p .xs) x ∙ on-value (decodeOf 64 (yPart h b) (h .v)) _ (p .ys) y in
       let r : outlineRules os (p .xs) (p .ys) ≡ ok tt =
-        on-value (finiteRule (p .xs) (p .ys)) _ tt (rule-holds _ table.finite (both _ _ (p .x-finite) (p .y-finite)))
-        ∙ on-value (ringRule os) _ tt (rule-holds _ table.ring (p .closed))
-        ∙ on-value (gridRule os) _ tt (rule-holds _ table.grid (p .on-grid))
-        ∙ rule-holds _ table.turn (p .turned) in
+      on-value (finiteRule (p .xs) (p .ys)) _ tt (rule-holds _ table.finite (both _ _ (p .x-finite) (p .y-finite)))
+      ∙ on-value (ringRule os) _ tt (rule-holds _ table.ring (p .closed))
+      ∙ on-value (gridRule os) _ tt (rule-holds _ table.grid (p .on-grid))
+      ∙ rule-holds _ table.turn (p .turned) in
       on-value (partsRule (typesOf h b) (countsOf h b) (lensOf h b) (h .v)) _ tt (rule-holds _ table.parts (p .parts))
       ∙ on-value (verticesOf h b) _ (record { xs = p .xs; ys = p .ys }) v
       ∙ on-value (outlineRules os (p .xs) (p .ys)) _ tt r
@@ -164,8 +164,8 @@ pages-sound k shapes (more {p = p} {ps = ps} says rest) y e =
     let contents : contentsOf (p .head) (p .body) ≡ ok (here .0) = in-page-ok k (contentsOf (p .head) (p .body)) (here .0) (here .1) in
     subst (SoundPages (p ∷ ps)) (ok-inj (others .2))
     (sound.more
-      (page-sound (p .head) (p .body) (here .0) (few-in p (says .headed)) (x-bytes (p .head) (p .body) own) (y-bytes (p .head) (p .body) own) contents)
-      (pages-sound (suc k) (others .0) rest (bytes-right (blockOf 2 (p .body)) (pageBlocks ps) y) (others .1)))
+    (page-sound (p .head) (p .body) (here .0) (few-in p (says .headed)) (x-bytes (p .head) (p .body) own) (y-bytes (p .head) (p .body) own) contents)
+    (pages-sound (suc k) (others .0) rest (bytes-right (blockOf 2 (p .body)) (pageBlocks ps) y) (others .1)))
 
 -- ---- the file
 

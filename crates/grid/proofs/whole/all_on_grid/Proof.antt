@@ -1,37 +1,33 @@
--- `grid::whole::all_on_grid` meets its contract. The invariant: those from i on decide. Assumes nothing.
-use mathlib.Core.Path.{_≡_, refl, sym, _∙_}
+-- `grid::whole::all_on_grid` meets its contract. The invariant: whether a bit is set so far, and those from i on, decide. Assumes nothing.
+use mathlib.Core.Path.{_≡_, refl, _∙_}
+use mathlib.Core.Bool.{_&&_}
 use Prim.Native.Nat.{_-_}
 use native.Mathlib.Omega.{arith}
 use borrow.Author.Needs.{needs}
-use borrow.Author.Tests.{not-true, not-false}
+use lib.Dec.{eqb}
 use lib.ListN.{length, drop}
 use Rattle.grid.specs.Grid.{allOnGrid}
-use Rattle.grid.proofs.OnGrid.{walk-off, walk-on, walk-done}
+use Rattle.grid.proofs.OnGrid.{walk-more, walk-done}
 use Rattle.grid.proofs.whole.all_on_grid.Statement.{statement}
 use Rattle.grid.proofs.whole.all_on_grid.Tie as tie
 
 abbrev Inv-loop : tie.InvT-loop
-Inv-loop vs i₀ i = allOnGrid (drop i vs) ≡ allOnGrid vs
+Inv-loop vs off₀ i₀ off i = (eqb off 0 && allOnGrid (drop i vs)) ≡ allOnGrid vs
 
 abbrev μ-loop : tie.MeasureT-loop
-μ-loop vs i₀ i = length vs - i
+μ-loop vs off₀ i₀ off i = length vs - i
 
 loop-holds : tie.Need-loop-holds Inv-loop μ-loop
 loop-holds c = refl
 
-mul-on-grid : tie.Need-mul-on-grid Inv-loop μ-loop
-mul-on-grid c = search needs
+mul-off-grid : tie.Need-mul-off-grid Inv-loop μ-loop
+mul-off-grid c = search needs
 
-shared-slice-read-on-grid : tie.Need-shared-slice-read-on-grid Inv-loop μ-loop
-shared-slice-read-on-grid c = search needs
+shared-slice-read-off-grid : tie.Need-shared-slice-read-off-grid Inv-loop μ-loop
+shared-slice-read-off-grid c = search needs
 
-on-grid-requires : tie.Need-on-grid-requires Inv-loop μ-loop
-on-grid-requires c κs = search needs
-
-returns : tie.Need-returns Inv-loop μ-loop
-returns c =
-    let l = c .before .before .before .before .loop in
-    sym (walk-off (c .before .before .before .before .before .before .args .vs .now) (l .i) (omega (arith, c .before .before .before .loop-test .taken)) (sym (c .before .on-grid .ensures) ∙ not-true _ (c .if1 .taken))) ∙ l .inv
+off-grid-requires : tie.Need-off-grid-requires Inv-loop μ-loop
+off-grid-requires c κs = search needs
 
 add-i : tie.Need-add-i Inv-loop μ-loop
 add-i c = search needs
@@ -40,12 +36,10 @@ loop-less : tie.Need-loop-less Inv-loop μ-loop
 loop-less c = search needs
 
 loop-again : tie.Need-loop-again Inv-loop μ-loop
-loop-again c =
-    let l = c .before .before .before .before .loop in
-    sym (walk-on (c .before .before .before .before .before .before .args .vs .now) (l .i) (omega (arith, c .before .before .before .loop-test .taken)) (sym (c .before .on-grid .ensures) ∙ not-false _ (c .if1 .left))) ∙ l .inv
+loop-again c = let l = c .before .before .before .loop in walk-more (c .before .before .before .before .before .args .vs .now) (l .i) (l .off) (c .off-grid .result) (omega (arith, c .before .before .loop-test .taken)) (c .off-grid .ensures) ∙ l .inv
 
-returns-2 : tie.Need-returns-2 Inv-loop μ-loop
-returns-2 c = sym (walk-done _ (c .before .loop .i) (omega arith)) ∙ c .before .loop .inv
+returns : tie.Need-returns Inv-loop μ-loop
+returns c = let l = c .before .loop in walk-done _ (l .i) (l .off) (omega arith) ∙ l .inv
 
 pub all-on-grid-spec : {M : Type 1} → statement M
 all-on-grid-spec =
@@ -54,11 +48,10 @@ all-on-grid-spec =
     Inv-loop
     μ-loop
     loop-holds
-    mul-on-grid
-    shared-slice-read-on-grid
-    on-grid-requires
-    returns
+    mul-off-grid
+    shared-slice-read-off-grid
+    off-grid-requires
     add-i
     loop-less
     loop-again
-    returns-2)
+    returns)

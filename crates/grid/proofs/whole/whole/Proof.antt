@@ -1,40 +1,39 @@
--- `grid::whole::whole` meets its contract: on grid, cutting to 64 bits is allowed and cuts nothing. Assumes nothing.
+-- `grid::whole::whole` meets its contract: on grid, but at -0, the cast to 64 bits is allowed and is the whole number. Assumes nothing.
 use mathlib.Core.Path.{_≡_, sym, ap, _∙_, subst}
-use mathlib.Core.Bool.{true, false}
 use Prim.Native.Nat.{_^_, _≤_}
 use native.Mathlib.Omega.{arith}
 use lib.Dec.{T}
 use lib.IntN.{ℤ, natAbs}
-use lib.Ieee.{Float, binary64, ofBits, toSigned, le, lt}
+use lib.Ieee.{Float, binary64, ofBits, inSigned, toSigned}
 use mir.Syntax.{w64}
 use mir.Val.{toZ, ofZ}
-use Rattle.extent.proofs.Patterns.{bits-finite}
 use Rattle.grid.specs.Grid.{wholeOf}
 use Rattle.grid.proofs.Sizes.{back-64}
-use Rattle.grid.proofs.Ranges.{power}
-use Rattle.grid.proofs.Cuts.{cut-allowed}
-use Rattle.grid.proofs.OnGrid.{on-grid-finite, on-grid-range, whole-small, cut-whole-of}
+use Rattle.grid.proofs.OnGrid.{on-grid-finite, whole-small, cast-allowed-of, cast-whole-of, whole-of-minus-zero}
 use Rattle.grid.proofs.whole.whole.Statement.{statement}
 use Rattle.grid.proofs.whole.whole.Tie as tie
 
-float-of-requires : tie.Need-float-of-requires
-float-of-requires c κs = on-grid-finite (c .args .b) (c .pre)
+returns : tie.Need-returns
+returns c = (whole-of-minus-zero (c .before .args .b) (c .if1 .taken), omega arith)
 
-truncating-f64-to-i64-requires : tie.Need-truncating-f64-to-i64-requires
-truncating-f64-to-i64-requires c κs =
-    let b = c .before .args .b in
-    let g = c .before .pre in
-    subst (λ (x : Float). T (le (power true 63) x) × T (lt x (power false 63))) (sym (c .float-of .ensures .0)) (cut-allowed (ofBits binary64 b) (bits-finite b (on-grid-finite b g)) (on-grid-range b g))
+float-of-requires : tie.Need-float-of-requires
+float-of-requires c κs = on-grid-finite (c .before .args .b) (c .before .pre)
+
+-- the cast is allowed
+allowed : (c : tie.After-float-of) → T (inSigned binary64 63 (ofBits binary64 (c .before .before .args .b)))
+allowed c = let s = c .before .before in cast-allowed-of (s .args .b) (s .fits .b .fits) (s .pre) (c .before .if1 .left)
+
+float-to-int-result : tie.Need-float-to-int-result
+float-to-int-result c = subst (λ (x : Float). T (inSigned binary64 63 x)) (sym (c .before .float-of .ensures .0)) (allowed (c .before))
 
 -- the result is the whole number
-is-whole : (c : tie.After-truncating-f64-to-i64) → toZ w64 (ofZ w64 (c .truncating-f64-to-i64 .result)) ≡ wholeOf (c .before .before .args .b)
+is-whole : (c : tie.After-float-of) → toZ w64 (ofZ w64 (toSigned 63 (c .float-of .result))) ≡ wholeOf (c .before .before .args .b)
 is-whole c =
     let b = c .before .before .args .b in
-    let g = c .before .before .pre in
-    back-64 (2 ^ 24) _ (wholeOf b) (c .truncating-f64-to-i64 .ensures ∙ ap (toSigned 63) (c .before .float-of .ensures .0) ∙ cut-whole-of b g) (whole-small b g) (omega arith)
+    back-64 (2 ^ 24) _ (wholeOf b) (ap (toSigned 63) (c .float-of .ensures .0) ∙ cast-whole-of b (allowed c)) (whole-small b (c .before .before .pre)) (omega arith)
 
-returns : tie.Need-returns
-returns c = (is-whole c, subst (λ (z : ℤ). natAbs z ≤ 2 ^ 24) (sym (is-whole c)) (whole-small (c .before .before .args .b) (c .before .before .pre)))
+returns-2 : tie.Need-returns-2
+returns-2 c = let w = is-whole (c .before) in (w, subst (λ (z : ℤ). natAbs z ≤ 2 ^ 24) (sym w) (whole-small (c .before .before .before .args .b) (c .before .before .before .pre)))
 
 pub whole-spec : {M : Type 1} → statement M
-whole-spec = tie.close (tie.spec float-of-requires truncating-f64-to-i64-requires returns)
+whole-spec = tie.close (tie.spec returns float-of-requires float-to-int-result returns-2)

@@ -1,0 +1,64 @@
+-- `pageblock::body::put_box` puts the box of the vertices: of no vertex four zeros, else what `box_of` gives, which is finite. Assumes nothing.
+use Prim.Native.Nat.{ℕ}
+use mathlib.Core.Path.{_≡_, ap, _∙_}
+use lib.Seq.{sets}
+use Rattle.extent.specs.Boxes.{Bounds, boxOf}
+use Rattle.pageblock.specs.Body.{boxBytes}
+use Rattle.pageblock.proofs.Boxed.{box-zero, stored-finite, four-are}
+use borrow.Author.Needs.{needs}
+use Rattle.pageblock.proofs.body.put_box.Statement.{statement}
+use Rattle.pageblock.proofs.body.put_box.Tie as tie
+use Rattle.pageblock.proofs.body.put_box.Reads as reads
+use Rattle.pageblock.proofs.body.put_box.Lts as lts
+use Rattle.extent.proofs.boxes.box_of.Reads as box-of-reads
+use Rattle.extent.proofs.rank.bits_of.Reads as bits-of-reads
+use Rattle.pageblock.proofs.body.put_four.Reads as put-four-reads
+
+put-four-requires : tie.Need-put-four-requires
+put-four-requires c κs = search needs
+
+same-length : tie.Need-same-length
+same-length c = search needs
+
+returns : tie.Need-returns
+returns c = let a = c .before .before .before .before .before .before .before .before .args in c .before .before .put-four .ensures ∙ ap (λ (b : Bounds). sets (a .d .now) (a .at) (boxBytes b)) (box-zero (a .xs .now) (a .ys .now) (c .before .before .before .before .if1 .taken))
+
+box-of-requires : tie.Need-box-of-requires
+box-of-requires c κs = search needs
+
+bits-of-requires : tie.Need-bits-of-requires
+bits-of-requires c κs = let p = c .before .before .before .before .before .before in stored-finite _ _ _ (c .before .box-of .ensures) (c .before .before .if1 .left) (p .pre .1) .least-x
+
+bits-of-requires-2 : tie.Need-bits-of-requires-2
+bits-of-requires-2 c κs = let p = c .before .before .before .before .before .before .before in stored-finite _ _ _ (c .before .before .box-of .ensures) (c .before .before .before .if1 .left) (p .pre .1) .least-y
+
+bits-of-requires-3 : tie.Need-bits-of-requires-3
+bits-of-requires-3 c κs = let p = c .before .before .before .before .before .before .before .before in stored-finite _ _ _ (c .before .before .before .box-of .ensures) (c .before .before .before .before .if1 .left) (p .pre .1) .greatest-x
+
+bits-of-requires-4 : tie.Need-bits-of-requires-4
+bits-of-requires-4 c κs = let p = c .before .before .before .before .before .before .before .before .before in stored-finite _ _ _ (c .before .before .before .before .box-of .ensures) (c .before .before .before .before .before .if1 .left) (p .pre .1) .greatest-y
+
+put-four-requires-2 : tie.Need-put-four-requires-2
+put-four-requires-2 c κs = search needs
+
+same-length-2 : tie.Need-same-length-2
+same-length-2 c = search needs
+
+returns-2 : tie.Need-returns-2
+returns-2 c = let a = c .before .before .before .before .before .before .before .before .before .before .before .before .before .args in c .before .before .put-four2 .ensures ∙ ap (λ (b : Bounds). sets (a .d .now) (a .at) (boxBytes b)) (four-are (c .before .before .before .before .before .before .before .before .box-of .result) (boxOf (a .xs .now) (a .ys .now)) _ _ _ _ (c .before .before .before .before .before .before .before .before .box-of .ensures) (c .before .before .before .before .before .before .bits-of .ensures) (c .before .before .before .before .before .bits-of2 .ensures) (c .before .before .before .before .bits-of3 .ensures) (c .before .before .before .bits-of4 .ensures))
+
+pub put-box-spec : {M : Type 1} → statement M
+put-box-spec =
+    tie.close
+    (tie.spec
+    put-four-requires
+    same-length
+    returns
+    box-of-requires
+    bits-of-requires
+    bits-of-requires-2
+    bits-of-requires-3
+    bits-of-requires-4
+    put-four-requires-2
+    same-length-2
+    returns-2)

@@ -1,0 +1,49 @@
+-- `pageblock::body::put_four` puts four patterns, one behind the other. Assumes nothing.
+use Rattle.pageblock.proofs.Storing.{box-put}
+use borrow.Author.Needs.{needs}
+use Rattle.pageblock.proofs.body.put_four.Statement.{statement}
+use Rattle.pageblock.proofs.body.put_four.Tie as tie
+use Rattle.pageblock.proofs.body.put_four.Reads as reads
+use Rattle.pageblock.proofs.body.put_four.Lts as lts
+use Rattle.le.proofs.number.put_u64.Reads as put-u64-reads
+
+put-u64-requires : tie.Need-put-u64-requires
+put-u64-requires c κs = search needs
+
+add-put-u64 : tie.Need-add-put-u64
+add-put-u64 c = search needs
+
+put-u64-requires-2 : tie.Need-put-u64-requires-2
+put-u64-requires-2 c κs = search needs
+
+add-put-u64-2 : tie.Need-add-put-u64-2
+add-put-u64-2 c = search needs
+
+put-u64-requires-3 : tie.Need-put-u64-requires-3
+put-u64-requires-3 c κs = search needs
+
+add-put-u64-3 : tie.Need-add-put-u64-3
+add-put-u64-3 c = search needs
+
+put-u64-requires-4 : tie.Need-put-u64-requires-4
+put-u64-requires-4 c κs = search needs
+
+same-length : tie.Need-same-length
+same-length c = search needs
+
+returns : tie.Need-returns
+returns c = let a = c .before .before .before .before .before .before .before .before .before .before .before .before .before .before .before .before .before .args in box-put (record { least-x = a .least-x; least-y = a .least-y; greatest-x = a .greatest-x; greatest-y = a .greatest-y }) (a .d .now) _ _ _ _ (a .at) (c .before .before .before .before .before .before .before .before .before .before .before .before .before .before .put-u64 .ensures) (c .before .before .before .before .before .before .before .before .before .before .put-u642 .ensures) (c .before .before .before .before .before .before .put-u643 .ensures) (c .before .before .put-u644 .ensures)
+
+pub put-four-spec : {M : Type 1} → statement M
+put-four-spec =
+    tie.close
+    (tie.spec
+    put-u64-requires
+    add-put-u64
+    put-u64-requires-2
+    add-put-u64-2
+    put-u64-requires-3
+    add-put-u64-3
+    put-u64-requires-4
+    same-length
+    returns)

@@ -1,0 +1,4 @@
+pub mod Body
+pub mod Page
+pub mod Ready
+pub mod Written
