@@ -5,3 +5,4 @@ pub mod Determined
 pub mod Worked
 pub mod Sampled
 pub mod SoundFiles
+pub mod Writings

@@ -1,3 +1,4 @@
 pub mod Worked
 pub mod Sample
 pub mod SoundFile
+pub mod Writing

@@ -6,26 +6,24 @@ use mathlib.Core.List.{List, [], _++_, append-assoc, append-nil}
 use native.Mathlib.Omega.{arith}
 use lib.Dec.{leb}
 use lib.ListN.{length, take, drop, length-drop, drop-of-length-le}
-use lib.Seq.{sets, sets-eq, take-all, drop-drop, length-take-le}
+use lib.Seq.{sets, sets-eq, take-all, drop-drop}
 use borrow.Author.Tests.{leb-true, leb-false, le-leb, lt-leb}
 use borrow.Rule.Slice.PartMut.{putMid, put-same, mid-len}
 use Rattle.answer.specs.declared.Refusal.{Refusal}
-use Rattle.answer.specs.declared.Filled.{Filled}
 use Rattle.answer.specs.declared.Filled.the-variants.{Start, Refused}
 use Rattle.answer.specs.declared.Verdict.the-variants as verdict
 use Rattle.answer.specs.Table as table
 use Rattle.answer.specs.Refusal.{because}
 use Rattle.answer.specs.Outcome.{Out, refused, ok, need, on, filled, answered, Fills}
-use Rattle.answer.proofs.Outcomes.{never, ok-inj, need-ok, on-ok}
+use Rattle.answer.proofs.Outcomes.{ok-inj, need-ok, on-ok}
 use Rattle.page.proofs.Orders.{on-refused, on-value}
-use Rattle.pageblock.specs.Body.{Handed, pageBytes}
+use Rattle.pageblock.specs.Body.{Handed}
 use Rattle.pageblock.specs.Page.{pageOf, roomFor, pageBlockOf}
 use Rattle.pageblock.proofs.Passing.{even-limits}
 use Rattle.pageblock.proofs.Blocks.{page-ok-is}
 use Rattle.pageblock.proofs.Sizes.{length-page}
 use Rattle.writer.specs.declared.Writer.{Writer}
-use Rattle.writer.specs.declared.Stepped.{Stepped}
-use Rattle.writer.specs.State.{Added, stateWith, putAt, pageStepOf, startOf, Steps}
+use Rattle.writer.specs.State.{stateWith, putAt, pageStepOf, startOf, Steps}
 use Rattle.writer.proofs.Stepping.{steps-refused, steps-ok}
 use Rattle.writer.proofs.Ways.{added, page-rest}
 

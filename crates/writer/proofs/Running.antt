@@ -1,30 +1,26 @@
 -- The file that calls make, whichever of them are taken: what stands before the position is the first block and the pages that were taken, and
 -- once closed it is the file of them. Assumes nothing.
-use Prim.Native.Nat.{ℕ, _+_, _≤_, _<_}
+use Prim.Native.Nat.{ℕ, _+_, _≤_}
 use mathlib.Core.Path.{_≡_, refl, sym, ap, ap₂, subst, _∙_}
-use mathlib.Core.Bool.{Bool, true, false}
+use mathlib.Core.Bool.{Bool, true}
 use mathlib.Core.List.{List, [], _∷_, _++_, append-assoc, append-nil}
-use native.Mathlib.Nat.{add-zero}
 use native.Mathlib.Omega.{arith}
 use lib.ListN.{length, take, drop, length-append}
 use lib.Seq.{sets, sets-eq, length-sets, length-take-le, take-at}
-use Rattle.answer.specs.declared.Refusal.{Refusal}
 use Rattle.answer.specs.Outcome.{Out, refused, ok}
-use Rattle.le.specs.Number.{bytesOf}
-use Rattle.frame.specs.Frame.{Page, Frame, shapesOf, frameOf}
-use Rattle.frame.specs.Whole.{blockOf, pageBlocks, endBlock, fileOf, Says, Every, none, more, IsFile}
+use Rattle.frame.specs.Frame.{shapesOf, frameOf}
+use Rattle.frame.specs.Whole.{blockOf, pageBlocks, endBlock, fileOf, Every, none, more, IsFile}
 use Rattle.frame.proofs.Wholes.{is-frame}
 use Rattle.pageblock.specs.Body.{Handed, bodyOf, pageBytes}
 use Rattle.pageblock.specs.Ready.{Typed}
 use Rattle.pageblock.specs.Written.{headFor, pageFor}
 use Rattle.pageblock.proofs.Passing.{Passed}
 use Rattle.pageblock.proofs.ReadBack.{page-says}
-use Rattle.writer.specs.declared.Writer.{Writer}
-use Rattle.writer.specs.State.{Added, stateWith, firstBlock, openOf, pageStepOf, closeOf, stateAfter, bufferAfter}
+use Rattle.writer.specs.State.{Added, firstBlock, openOf, pageStepOf, closeOf, stateAfter, bufferAfter}
 use Rattle.writer.specs.Run as run
 use Rattle.writer.specs.Run.{Call, pageCall, closeCall, Held, callOf, leftBy, afterCalls, pageOfCall, takenOf, TypedCall, TypedCalls, pagesFor, frameFor, fileSoFar}
 use Rattle.writer.proofs.Ends.{length-first}
-use Rattle.writer.proofs.Ways.{added, open-ok}
+use Rattle.writer.proofs.Ways.{open-ok}
 use Rattle.writer.proofs.Taken.{page-was, close-was}
 
 -- ---- lists of pages, one more at the end

@@ -1,6 +1,6 @@
 -- A step, by its outcome. Assumes nothing.
 use Prim.Native.Nat.{ℕ}
-use mathlib.Core.Path.{_≡_, refl, sym, _∙_}
+use mathlib.Core.Path.{_≡_}
 use mathlib.Core.List.{List}
 use lib.Seq.{sets}
 use Rattle.answer.specs.declared.Refusal.{Refusal}
@@ -8,7 +8,6 @@ use Rattle.answer.specs.declared.Verdict.the-variants.{Holds, Refused}
 use Rattle.answer.specs.Outcome.{Out, refused, ok}
 use Rattle.answer.proofs.Rules.{passed-ok, passed-refused}
 use Rattle.writer.specs.declared.Writer.{Writer}
-use Rattle.writer.specs.declared.Stepped.{Stepped}
 use Rattle.writer.specs.State.{Added, stateAfter, bufferAfter, Steps}
 
 module _ {o : Out Added} {st : Writer} {d : List ℕ} where

@@ -1,20 +1,18 @@
 -- A step that was taken: what had passed, and what it added. Assumes nothing.
 use Prim.Native.Nat.{ℕ, _+_, _≤_, _<_}
-use mathlib.Core.Path.{_≡_, refl, sym, ap, subst, _∙_}
-use mathlib.Core.Bool.{Bool, true, false, not, _&&_}
+use mathlib.Core.Path.{_≡_, subst}
+use mathlib.Core.Bool.{true, false, not}
 use mathlib.Core.List.{List}
-use native.Mathlib.Omega.{arith}
 use lib.Dec.{leb, ltb}
 use lib.ListN.{length}
 use borrow.Author.Tests.{not-true, leb-true, ltb-true}
 use Rattle.answer.specs.Table as table
-use Rattle.answer.specs.Outcome.{Out, refused, ok, on}
+use Rattle.answer.specs.Outcome.{ok}
 use Rattle.answer.proofs.Outcomes.{ok-inj, need-ok, on-ok}
 use Rattle.answer.proofs.Rules.{rule-ok}
 use Rattle.types.proofs.Both.{both-l}
 use Rattle.frame.specs.Whole.{endBlock}
 use Rattle.pageblock.specs.Body.{Handed, pageBytes}
-use Rattle.pageblock.specs.Page.{pageOf}
 use Rattle.pageblock.proofs.Passing.{Passed}
 use Rattle.pageblock.proofs.Blocks.{page-ok-is}
 use Rattle.writer.specs.declared.Writer.{Writer}

@@ -1,15 +1,14 @@
 -- The ways through the three steps, a law for each. Assumes nothing.
 use Prim.Native.Nat.{ℕ, _+_, _≤_, _<_}
-use mathlib.Core.Path.{_≡_, sym, ap, _∙_}
-use mathlib.Core.Bool.{Bool, true, false, not, _&&_}
+use mathlib.Core.Path.{_≡_, ap, _∙_}
+use mathlib.Core.Bool.{true, false, not}
 use mathlib.Core.List.{List}
 use native.Mathlib.Omega.{arith}
-use lib.Dec.{leb, ltb}
 use lib.ListN.{length}
 use borrow.Author.Tests.{le-leb, lt-leb, lt-ltb, le-ltb}
 use Rattle.answer.specs.Table as table
 use Rattle.answer.specs.Refusal.{because}
-use Rattle.answer.specs.Outcome.{Out, refused, ok, on}
+use Rattle.answer.specs.Outcome.{refused, ok, on}
 use Rattle.answer.proofs.Outcomes.{met, unmet}
 use Rattle.answer.proofs.Rules.{rule-holds, rule-fails}
 use Rattle.frame.specs.Whole.{endBlock}
