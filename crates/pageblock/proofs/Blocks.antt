@@ -3,14 +3,14 @@ use Prim.Native.Nat.{ℕ, _+_, _≤_, _<_}
 use mathlib.Core.Path.{_≡_, sym, ap, _∙_}
 use mathlib.Core.List.{List, _++_}
 use native.Mathlib.Omega.{arith}
-use lib.ListN.{length, take, drop}
+use lib.ListN.{length, drop}
 use lib.Seq.{sets, sets-eq}
 use borrow.Author.Tests.{le-leb, lt-leb}
 use Rattle.answer.specs.Table as table
 use Rattle.answer.specs.Refusal.{because}
 use Rattle.answer.specs.declared.Refusal.{Refusal}
 use Rattle.answer.specs.declared.Verdict.the-variants as verdict
-use Rattle.answer.specs.Outcome.{Out, refused, ok}
+use Rattle.answer.specs.Outcome.{refused, ok}
 use Rattle.answer.specs.Rule.{judged}
 use Rattle.answer.proofs.Outcomes.{ok-inj, on-ok, met, unmet}
 use Rattle.answer.proofs.Rules.{judged-holds}

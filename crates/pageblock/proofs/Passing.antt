@@ -1,5 +1,5 @@
 -- The rules of a page that is handed in, one law for each way through, and what has passed where they let pass. Assumes nothing.
-use Prim.Native.Nat.{ℕ, _≤_}
+use Prim.Native.Nat.{ℕ}
 use mathlib.Core.Path.{_≡_, sym, _∙_}
 use mathlib.Core.Bool.{Bool, true, false, _&&_}
 use mathlib.Core.List.{List}
@@ -11,7 +11,7 @@ use Rattle.answer.specs.Refusal.{because}
 use Rattle.answer.specs.declared.Refusal.{Refusal}
 use Rattle.answer.specs.declared.Verdict.{Verdict}
 use Rattle.answer.specs.declared.Verdict.the-variants.{Holds, Refused}
-use Rattle.answer.specs.Outcome.{Out, refused, ok, on}
+use Rattle.answer.specs.Outcome.{ok, on}
 use Rattle.answer.specs.Rule.{judged}
 use Rattle.answer.proofs.Outcomes.{on-ok}
 use Rattle.answer.proofs.Rules.{rule-holds, rule-fails, rule-ok, judged-holds, judged-refused}

@@ -8,10 +8,9 @@ use lib.Dec.{ltb, eqb}
 use lib.ListN.{length, getD, drop}
 use borrow.Author.Tests.{eqb-true, eqb-false}
 use Rattle.answer.specs.Table as table
-use Rattle.answer.specs.Outcome.{Out, ok, on}
+use Rattle.answer.specs.Outcome.{ok}
 use Rattle.answer.proofs.Rules.{rule-holds}
-use Rattle.le.specs.Number.{numberAt}
-use Rattle.extent.specs.Boxes.{Bounds, FiniteBox, patterns, spotOf, boxOf}
+use Rattle.extent.specs.Boxes.{Bounds, patterns, spotOf, boxOf}
 use Rattle.extent.specs.Forms.{floatsOf}
 use Rattle.extent.proofs.Boxed.{box-met, box-good}
 use Rattle.extent.proofs.Firsts.{Met}

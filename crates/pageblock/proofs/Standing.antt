@@ -1,7 +1,7 @@
 -- Bytes that stand at a place of others: what is read there, and where the next ones stand. Assumes nothing.
 use Prim.Native.Nat.{ℕ, zero, suc, _+_, _*_, _^_, _<_}
 use mathlib.Core.Path.{_≡_, refl, sym, ap, ap₂, _∙_}
-use mathlib.Core.List.{List, [], _∷_, _++_}
+use mathlib.Core.List.{List, _∷_, _++_}
 use native.Mathlib.Nat.{mod-eq-of-lt, add-assoc, add-zero}
 use lib.ListN.{length, getD, take, drop}
 use lib.Seq.{drop-drop, drop-at, take-at}

@@ -1,5 +1,5 @@
 -- `pageblock::block::page_block` gives the outcome of a page's block: a rule's refusal, 2, or the bytes at the start of the room. Assumes nothing.
-use mathlib.Core.Path.{_≡_, sym, _∙_}
+use mathlib.Core.Path.{_≡_}
 use native.Mathlib.Omega.{arith}
 use lib.ListN.{length}
 use Rattle.answer.specs.Table as table
@@ -7,7 +7,7 @@ use Rattle.answer.specs.Refusal.{because}
 use Rattle.answer.specs.Rule.{judged}
 use Rattle.answer.specs.declared.Verdict.the-variants.{Holds}
 use Rattle.answer.proofs.Outcomes.{fills-refused, fills-ok}
-use Rattle.pageblock.specs.Body.{Handed, handedWith, pageBytes}
+use Rattle.pageblock.specs.Body.{handedWith, pageBytes}
 use Rattle.pageblock.specs.Page.{pageRules}
 use Rattle.pageblock.proofs.Passing.{even-limits, passed-sound}
 use Rattle.pageblock.proofs.Sizes.{body-size, columns-few, column-most, length-page}

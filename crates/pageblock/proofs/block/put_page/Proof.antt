@@ -1,7 +1,6 @@
 -- `pageblock::block::put_page` puts the head of the block, the counts, the box, the tables and the columns, one behind the other. Assumes nothing.
-use mathlib.Core.Path.{_≡_}
 use native.Mathlib.Omega.{arith}
-use Rattle.pageblock.specs.Body.{Handed, handedWith}
+use Rattle.pageblock.specs.Body.{handedWith}
 use Rattle.pageblock.proofs.Passing.{even-limits}
 use Rattle.pageblock.proofs.Sizes.{length-tables, length-body, tables-from, sizes-at, sizes-few}
 use Rattle.pageblock.proofs.Storing.{page-put}

@@ -1,6 +1,5 @@
 -- `pageblock::body::put_box` puts the box of the vertices: of no vertex four zeros, else what `box_of` gives, which is finite. Assumes nothing.
-use Prim.Native.Nat.{ℕ}
-use mathlib.Core.Path.{_≡_, ap, _∙_}
+use mathlib.Core.Path.{ap, _∙_}
 use lib.Seq.{sets}
 use Rattle.extent.specs.Boxes.{Bounds, boxOf}
 use Rattle.pageblock.specs.Body.{boxBytes}

@@ -3,7 +3,7 @@
 use native.Mathlib.Omega.{arith}
 use lib.ListN.{length}
 use Rattle.pageblock.specs.Body.{handedWith}
-use Rattle.writer.proofs.Stepping.{steps-refused, steps-ok}
+use Rattle.writer.proofs.Stepping.{steps-refused}
 use Rattle.writer.proofs.Ways.{page-closed, page-many, page-shapes}
 use Rattle.writer.proofs.Paging.{start-inside, page-refused, page-fits, page-taken}
 use borrow.Author.Needs.{needs}
