@@ -8,6 +8,14 @@ use Rattle.frame.specs.declared.walk.Totals.{Totals}
 use Rattle.file.specs.declared.check.Checked.{Checked}
 use Rattle.file.specs.declared.check.Checked.the-variants.{Sound, Refused}
 use Rattle.file.specs.Check.{checkOf, saidCheck}
+use Rattle.query.specs.declared.ask.Ask.{Ask}
+use Rattle.query.specs.declared.block.AskRead.{AskRead}
+use Rattle.query.specs.declared.block.AskRead.the-variants as read
+use Rattle.query.specs.Block as block
+use Rattle.query.specs.Block.{askOf}
+use Rattle.search.specs.declared.count.Counted.{Counted}
+use Rattle.search.specs.declared.count.Counted.the-variants as counted
+use Rattle.search.specs.Search.{countOf, saidCount}
 use Rattle.viewer.specs.Word.{wordOf}
 
 pub refusal-is : (w : Refusal) → w .number * 2 ^ 32 + w .page ≡ wordOf (refused w)
@@ -22,3 +30,19 @@ module _ (s : List ℕ) (r : Checked) (f : saidCheck r ≡ checkOf s) where
   pub word-refused : (w : Refusal) (x : ℕ) → r ≡ Refused w → x ≡ wordOf (refused w) → x ≡ wordOf (on (checkOf s) (λ t. ok (t .shapes)))
   unfolding saidCheck on
   word-refused w x e q = q ∙ rw (← f, e)
+
+-- ---- the count of a query's block
+
+module _ (q s : List ℕ) (r : AskRead) (f : block.said r ≡ askOf q) where
+  pub word-unasked : (w : Refusal) (x : ℕ) → r ≡ read.Refused w → x ≡ wordOf (refused w) → x ≡ wordOf (on (askOf q) (λ a. countOf a s))
+  unfolding block.said on
+  word-unasked w x e p = p ∙ rw (← f, e)
+
+  module _ (a : Ask) (e : r ≡ read.Asked a) (c : Counted) (g : saidCount c ≡ countOf a s) where
+    pub word-hits : (n : ℕ) → c ≡ counted.Hits n → n ≡ wordOf (on (askOf q) (λ a. countOf a s))
+    unfolding block.said saidCount on wordOf
+    word-hits n h = rw (← f, e, ← g, h)
+
+    pub word-uncounted : (w : Refusal) (x : ℕ) → c ≡ counted.Refused w → x ≡ wordOf (refused w) → x ≡ wordOf (on (askOf q) (λ a. countOf a s))
+    unfolding block.said saidCount on
+    word-uncounted w x h p = p ∙ rw (← f, e, ← g, h)

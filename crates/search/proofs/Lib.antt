@@ -1,0 +1,14 @@
+pub mod Marks
+pub mod Rising
+pub mod Sequence
+pub mod Placing
+pub mod Opened
+pub mod Meeting
+pub mod Bits
+pub mod Listing
+pub mod Ordered
+pub mod Services
+pub mod Listed
+pub mod Closed
+pub mod Complete
+pub mod Apart

@@ -1,0 +1,192 @@
+-- The walk over a file's pages: what was found with what is still to come is the whole. Assumes nothing.
+use mathlib.Core.Path.{_≡_, refl, sym, ap, _∙_}
+use mathlib.Core.List.{List, [], _∷_, _++_, append-nil, append-assoc}
+use Prim.Native.Nat.{ℕ, suc, _+_, _*_, _-_, _^_, _≤_, _<_}
+use native.Mathlib.Numerals.{add-one}
+use native.Mathlib.Omega.{arith}
+use lib.ListN.{length, length-append}
+use Rattle.answer.specs.declared.Refusal.{Refusal}
+use Rattle.answer.specs.Outcome.{Out, refused, ok, on}
+use Rattle.le.specs.Number.{number}
+use Rattle.query.specs.declared.ask.Ask.{Ask}
+use Rattle.frame.specs.declared.cursor.Cursor.{Cursor}
+use Rattle.frame.specs.declared.cursor.PageAt.{PageAt}
+use Rattle.frame.specs.declared.cursor.Step.{Step}
+use Rattle.frame.specs.declared.cursor.Step.the-variants as step
+use Rattle.frame.specs.Step.{page, firstOf, stepOf}
+use Rattle.frame.specs.Frame.{Page, Frame, pageOf, frameOf}
+use Rattle.frame.specs.Said.{saidStep}
+use Rattle.frame.proofs.Steps.{page-said, end-said, refusal-said}
+use Rattle.frame.proofs.Found.{first-is, Paged, page-is}
+use Rattle.frame.proofs.Walks.{pages-on, shapes-on, within-on}
+use Rattle.frame.proofs.Ahead.{Ahead, ahead-first, ahead-never, ahead-end, ahead-page, ahead-fewer}
+use Rattle.search.specs.declared.count.Counted.{Counted}
+use Rattle.search.specs.declared.count.Counted.the-variants.{Hits, Refused}
+use Rattle.search.specs.Ascending.{Ascending}
+use Rattle.search.specs.Search.{pageHits, metOf, metIn}
+use Rattle.search.specs.Flags.{bitsOf}
+use Rattle.search.specs.Met.{Meets}
+use Rattle.page.proofs.Orders.{on-refused, on-value}
+use Rattle.search.proofs.Sequence.{met-none, met-cons, met-order}
+use Rattle.search.proofs.Rising.{rising-few, rising-under}
+use Rattle.search.proofs.Opened.{meets-refused, meets-ok, meets-refusal, meets-hits, page-ascends}
+
+-- ---- bits of two runs of places
+
+pub bits-append : (l m : List ℕ) → bitsOf (l ++ m) ≡ bitsOf l + bitsOf m
+unfolding bitsOf
+bits-append [] m = omega arith
+bits-append (p ∷ l) m = let r = bits-append l m in omega (arith, r)
+
+-- ---- one page more
+
+module _ (a : Ask) (k n : ℕ) (p : Page) (ps : List Page) where
+  pub met-refused : (w : Refusal) → pageHits a k n p ≡ refused w → metOf a k n (p ∷ ps) ≡ refused w
+  met-refused w e = met-cons a k n p ps ∙ on-refused (pageHits a k n p) _ w e
+
+  pub met-page : (here : List ℕ) → pageHits a k n p ≡ ok here
+      → metOf a k n (p ∷ ps) ≡ on (metOf a (suc k) (n + p .head .g) ps) (λ rest. ok (here ++ rest))
+  met-page here e = met-cons a k n p ps ∙ on-value (pageHits a k n p) _ here e
+
+-- one after another
+joined : (o : Out (List ℕ)) (l m : List ℕ) → on (on o (λ r. ok (m ++ r))) (λ r. ok (l ++ r)) ≡ on o (λ r. ok ((l ++ m) ++ r))
+unfolding on
+joined (refused w) l m = refl
+joined (ok r) l m = ap ok (sym (append-assoc l m r))
+
+-- nothing before
+plain : (o : Out (List ℕ)) → o ≡ on o (λ l. ok ([] ++ l))
+unfolding on
+plain (refused w) = refl
+plain (ok l) = refl
+
+-- nothing after
+last : (o : Out (List ℕ)) (l : List ℕ) → o ≡ ok [] → on o (λ r. ok (l ++ r)) ≡ ok l
+unfolding on
+last o l e = rw e (ap ok (append-nil l))
+
+-- nothing at all
+stopped : (o : Out (List ℕ)) (l : List ℕ) (w : Refusal) → o ≡ refused w → on o (λ r. ok (l ++ r)) ≡ refused w
+unfolding on
+stopped o l w e = rw e
+
+-- ---- the walk
+
+-- at cursor c so many were found, and the flags d₀ have become d
+pub record Meeting (a : Ask) (s d₀ : List ℕ) (c : Cursor) (found : ℕ) (d : List ℕ) : Type 0 where
+  pub pages : List Page
+  pub done : List ℕ
+  pub ahead : Ahead s c pages
+  pub same : metIn a s ≡ on (metOf a (c .pages) (c .shapes) pages) (λ l. ok (done ++ l))
+  pub count : found ≡ length done
+  pub few : found ≤ c .shapes
+  pub long : length d ≡ length d₀
+  pub low : 262144 ≤ 8 * length d₀ → number d₀ < 2 ^ 0 → number d < 2 ^ (c .shapes)
+  pub bits : 262144 ≤ 8 * length d₀ → number d₀ < 2 ^ 0 → number d ≡ number d₀ + bitsOf done
+
+-- nothing yet
+pub meeting-start : (a : Ask) (s d : List ℕ) (c : Cursor) (f : Frame) → frameOf s ≡ ok f → firstOf s ≡ ok c → Meeting a s d c 0 d
+unfolding bitsOf
+meeting-start a s d c f e q =
+    let k = first-is s c q in
+    let n : c .pages ≡ 0 = ap (λ (x : Cursor). x .pages) (k .after) in
+    let m : c .shapes ≡ 0 = ap (λ (x : Cursor). x .shapes) (k .after) in
+    record {
+      pages = f .pages;
+      done = [];
+      ahead = ahead-first s f c e q .1;
+      same = met-order a s ∙ on-value (frameOf s) _ f e ∙ rw (n, m) (plain (metOf a 0 0 (f .pages)));
+      count = refl;
+      few = omega arith;
+      long = refl;
+      low = λ _ l. rw m l;
+      bits = λ _ _. omega arith;
+    }
+
+module _ (a : Ask) (s d₀ : List ℕ) (c : Cursor) (found : ℕ) (d : List ℕ) (w : Meeting a s d₀ c found d) (r : Step) (f : saidStep r ≡ stepOf s c) where
+  -- no step is refused
+  pub meeting-never : {A : Type 0} (x : Refusal) → r ≡ step.Refused x → A
+  meeting-never x e = absurd (ahead-never s c (w .pages) (w .ahead) x (refusal-said s c r f x e))
+
+  -- at the end all is done
+  pub meeting-end : r ≡ step.End → Meets (metIn a s) 0 262144 (Hits found) d₀ d
+  meeting-end e = meets-ok found (w .done) all (w .count) (record { added = w .bits })
+    where
+      all : metIn a s ≡ ok (w .done)
+      all =
+          let z : w .pages ≡ [] = ahead-end s c (w .pages) (w .ahead) (end-said s c r f e) in
+          w .same ∙ last (metOf a (c .pages) (c .shapes) (w .pages)) (w .done) (ap (metOf a (c .pages) (c .shapes)) z ∙ met-none a (c .pages) (c .shapes))
+
+  module _ (p : PageAt) (e : r ≡ step.Page p) where
+    here : stepOf s c ≡ ok (page p)
+    here = page-said s c r f p e
+
+    -- the page is found
+    pub meeting-paged : Paged s c p
+    meeting-paged = page-is s c p here
+
+    pub meeting-room : c .shapes + p .head .g ≤ 262144
+    meeting-room =
+        let k = within-on s c (w .ahead .within) p meeting-paged in
+        omega (arith, k .shapes, k .pages, shapes-on s c (w .ahead .within) p meeting-paged)
+
+    pub meeting-fewer : 1025 - p .next .pages < 1025 - c .pages
+    meeting-fewer = ahead-fewer s c (w .pages) (w .ahead) p here
+
+    module _ (h : Counted) (e′ : List ℕ) (m : Meets (pageHits a (c .pages) (c .shapes) (pageOf s p)) (c .shapes) (c .shapes + p .head .g) h d e′) where
+      rest : (qs : List Page) × (w .pages ≡ pageOf s p ∷ qs) × Ahead s (p .next) qs
+      rest = ahead-page s c (w .pages) (w .ahead) p here
+
+      -- its contents are refused
+      pub meeting-refused : (x : Refusal) → h ≡ Refused x → Meets (metIn a s) 0 262144 (Refused x) d₀ e′
+      meeting-refused x q =
+          meets-refused x
+          (w .same
+          ∙ stopped (metOf a (c .pages) (c .shapes) (w .pages)) (w .done) x
+          (ap (metOf a (c .pages) (c .shapes)) (rest .1) ∙ met-refused a (c .pages) (c .shapes) (pageOf s p) (rest .0) x (meets-refusal h m x q)))
+
+      module _ (j : ℕ) (q : h ≡ Hits j) where
+        own : (l : List ℕ) × (pageHits a (c .pages) (c .shapes) (pageOf s p) ≡ ok l) × (j ≡ length l)
+        own = meets-hits h m j q
+
+        rise : Ascending (c .shapes + p .head .g) (c .shapes) (own .0)
+        rise = page-ascends a (c .pages) (c .shapes) (pageOf s p) (own .0) (own .1)
+
+        shapes : p .next .shapes ≡ c .shapes + p .head .g
+        shapes = shapes-on s c (w .ahead .within) p meeting-paged
+
+        pub meeting-few : found + j ≤ p .next .shapes
+        meeting-few = let o = own .2 in let b = rising-few {to = c .shapes + p .head .g} (c .shapes) (own .0) (omega arith) rise in omega (arith, o, b, w .few, shapes)
+
+        pub meeting-fits : found + j ≤ 262144
+        meeting-fits = omega (arith, meeting-few, shapes, meeting-room)
+
+        same : metIn a s ≡ on (metOf a (p .next .pages) (p .next .shapes) (rest .0)) (λ l. ok ((w .done ++ own .0) ++ l))
+        same =
+            let o = metOf a (suc (c .pages)) (c .shapes + p .head .g) (rest .0) in
+            let up : suc (c .pages) ≡ p .next .pages = sym (pages-on s c (w .ahead .within) p meeting-paged ∙ add-one (c .pages)) in
+            w .same
+            ∙ ap (λ (ps : List Page). on (metOf a (c .pages) (c .shapes) ps) (λ l. ok (w .done ++ l))) (rest .1)
+            ∙ ap (λ (x : Out (List ℕ)). on x (λ l. ok (w .done ++ l))) (met-page a (c .pages) (c .shapes) (pageOf s p) (rest .0) (own .0) (own .1))
+            ∙ joined o (w .done) (own .0)
+            ∙ (λ i. on (metOf a (up i) (sym shapes i) (rest .0)) (λ l. ok ((w .done ++ own .0) ++ l)))
+
+        grown : 262144 ≤ 8 * length d₀ → number d₀ < 2 ^ 0 → number e′ ≡ number d + bitsOf (own .0)
+        grown t l = m .flags (own .0) (own .1) .added (omega (arith, t, w .long, meeting-room)) (w .low t l)
+
+        -- its contents are read
+        pub meeting-more : length e′ ≡ length d → Meeting a s d₀ (p .next) (found + j) e′
+        meeting-more t = record {
+          pages = rest .0;
+          done = w .done ++ own .0;
+          ahead = rest .2;
+          same = same;
+          count = (let o = own .2 in omega (arith, o, w .count, length-append (w .done) (own .0)));
+          few = meeting-few;
+          long = t ∙ w .long;
+          low = λ x y. lower x y;
+          bits = λ x y. (let g = grown x y in let b = w .bits x y in omega (arith, g, b, bits-append (w .done) (own .0)));
+        }
+          where
+            lower : 262144 ≤ 8 * length d₀ → number d₀ < 2 ^ 0 → number e′ < 2 ^ (p .next .shapes)
+            lower x y = rw (shapes, grown x y) (rising-under {to = c .shapes + p .head .g} (c .shapes) (own .0) (number d) (omega arith) rise (w .low x y))

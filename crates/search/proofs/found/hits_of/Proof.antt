@@ -1,0 +1,33 @@
+-- `search::found::hits_of` judges the query first, and then the file. Assumes nothing.
+use Rattle.search.proofs.Services.{query-refused, query-sound, query-met}
+use borrow.Author.Needs.{needs}
+use Rattle.search.proofs.found.hits_of.Statement.{statement}
+use Rattle.search.proofs.found.hits_of.Tie as tie
+
+judge-requires : tie.Need-judge-requires
+judge-requires c κs = search needs
+
+enum-known-w : tie.Need-enum-known-w
+enum-known-w c = search needs
+
+returns : tie.Need-returns
+returns c =
+    let w = c .before .w .given in
+    query-refused (c .before .before .before .before .before .before .args .a) (c .before .before .before .before .before .before .args .s .now) (w .0 .0) (rw (w .1) at (c .before .before .before .judge .ensures))
+
+enum-told : tie.Need-enum-told
+enum-told c = search needs
+
+met-in-requires : tie.Need-met-in-requires
+met-in-requires c κs = query-sound (c .before .before .before .before .before .before .args .a) (c .before .before .before .before .before .before .args .s .now) (rw (c .before .enum-told .given .1) at (c .before .before .before .judge .ensures))
+
+same-length : tie.Need-same-length
+same-length c = search needs
+
+returns-2 : tie.Need-returns-2
+returns-2 c = rw (query-met (c .before .before .before .before .before .before .before .before .before .args .a) (c .before .before .before .before .before .before .before .before .before .args .s .now) (rw (c .before .before .before .before .enum-told .given .1) at (c .before .before .before .before .before .before .judge .ensures))) (c .before .before .met-in .ensures)
+
+pub hits-of-spec : {M : Type 1} → statement M
+hits-of-spec =
+    tie.close
+    (tie.spec judge-requires enum-known-w returns enum-told met-in-requires same-length returns-2)

@@ -1,0 +1,6 @@
+pub mod Search
+pub mod Ascending
+pub mod Listed
+pub mod Alike
+pub mod Flags
+pub mod Met

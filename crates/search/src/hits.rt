@@ -1,0 +1,45 @@
+// What a query hits in a page that was loaded.
+ghost use mathlib.Core.Path.{_≡_};
+ghost use mathlib.Core.Bool.{true};
+ghost use Prim.Native.Nat.{_+_, _≤_};
+ghost use lib.ListN.{length};
+ghost use Rattle.extent.specs.Rank.{allFinite};
+ghost use Rattle.types.specs.Parts.{partsHold};
+ghost use Rattle.query.specs.Ask.{sound};
+ghost use Rattle.shape.specs.Outline.{outlinesOf};
+ghost use Rattle.search.specs.Search.{placesOf};
+ghost use Rattle.search.specs.Flags.{bitsOf, Adds};
+use crate::flags::note;
+use query::ask::Ask;
+use query::ask::hit;
+use types::parts::total;
+
+// How many shapes of a page are hit, the first of which has place n. Each is noted.
+pub fn shapes_hit(
+    a: Ask,
+    n: usize,
+    types: &[u8],
+    counts: &[u16],
+    lens: &[u16],
+    xs: &[u64],
+    ys: &[u64],
+    flags: &mut [u8],
+) -> usize
+    requires { ⌜ (sound (a .query) ≡ true) × (n + length (now types) ≤ 262144) × (partsHold (now types) (now counts) (now lens) (length (now xs)) ≡ true) × (length (now ys) ≡ length (now xs)) × (allFinite (now xs) ≡ true) × (allFinite (now ys) ≡ true) ⌝ }
+    ensures { λ r. ⌜ (r ≡ length (placesOf a n (outlinesOf (now (types .entry)) (now (counts .entry)) (now (lens .entry)) (now (xs .entry)) (now (ys .entry))))) × Adds (now (flags .entry)) (now (flags .exit)) n (n + length (now (types .entry))) (bitsOf (placesOf a n (outlinesOf (now (types .entry)) (now (counts .entry)) (now (lens .entry)) (now (xs .entry)) (now (ys .entry))))) ⌝ }
+{
+    let mut i: usize = 0;
+    let mut k: usize = 0;
+    let mut at: usize = 0;
+    let mut found: usize = 0;
+    while i < types.len() {
+        let e = k + counts[i] as usize;
+        let end = at + total(&lens[k..e]);
+        let is = hit(a, &xs[at..end], &ys[at..end]);
+        found += note(is, n + i, flags);
+        k = e;
+        at = end;
+        i += 1;
+    }
+    found
+}

@@ -1,0 +1,126 @@
+// What a query hits in the pages of a file: a page is opened only if its stored box meets the query, and is decoded once.
+ghost use mathlib.Core.Path.{_≡_};
+ghost use mathlib.Core.Bool.{true};
+ghost use Prim.Native.Nat.{ℕ, _+_, _≤_};
+ghost use lib.ListN.{length};
+ghost use Rattle.answer.specs.Outcome.{ok, on, inPage};
+ghost use Rattle.query.specs.Ask.{sound};
+ghost use Rattle.frame.specs.Head.{headOf};
+ghost use Rattle.frame.specs.Step.{part, firstOf};
+ghost use Rattle.frame.specs.Frame.{Frame, pageOf, frameOf};
+ghost use Rattle.page.specs.Contents.{contentsOf};
+ghost use Rattle.search.specs.Search.{hitsFrom, pageHits, metIn};
+ghost use Rattle.search.specs.Met.{Meets};
+use crate::count::Counted;
+use crate::hits::shapes_hit;
+use answer::Verdict;
+use frame::cursor::Cursor;
+use frame::cursor::PageAt;
+use frame::cursor::Step;
+use frame::head::Head;
+use frame::step::step;
+use page::contents::load;
+use query::ask::Ask;
+use query::ask::opens;
+
+// The hits of the contents of page k, whose first shape has place n. The scratch has room for exactly as many part counts, part lengths and
+// vertices as the head says.
+fn contents_hit(
+    a: Ask,
+    k: usize,
+    n: usize,
+    b: &[u8],
+    h: Head,
+    counts: &mut [u16],
+    lens: &mut [u16],
+    xs: &mut [u64],
+    ys: &mut [u64],
+    flags: &mut [u8],
+) -> Counted
+    requires { ⌜ (sound (a .query) ≡ true) × (k ≤ 1024) × (n + h .g ≤ 262144) × ((e : ℕ) × (headOf e (now b) ≡ ok h)) × (length (now counts) ≡ h .g) × (length (now lens) ≡ h .p) × (length (now xs) ≡ h .v) × (length (now ys) ≡ h .v) ⌝ }
+    ensures { λ r. ⌜ Meets (on (inPage k (contentsOf h (now (b .entry)))) (λ here. ok (hitsFrom a n here))) n (n + h .g) r (now (flags .entry)) (now (flags .exit)) ⌝ }
+{
+    if let Verdict::Refused(w) = load(b, h, counts, lens, xs, ys) {
+        return Counted::Refused(w.on_page(k as u32));
+    }
+    let from = h.layout.types;
+    let to = from + h.g;
+    Counted::Hits(shapes_hit(a, n, &b[from..to], counts, lens, xs, ys, flags))
+}
+
+// The hits of page k of a file, whose first shape has place n. The scratch serves every page.
+fn page_hits(
+    a: Ask,
+    k: usize,
+    n: usize,
+    s: &[u8],
+    p: PageAt,
+    counts: &mut [u16],
+    lens: &mut [u16],
+    xs: &mut [u64],
+    ys: &mut [u64],
+    flags: &mut [u8],
+) -> Counted
+    requires { ⌜ (sound (a .query) ≡ true) × (k ≤ 1024) × (n + p .head .g ≤ 262144) × (p .body + p .len ≤ length (now s)) × ((e : ℕ) × (headOf e (part (now s) (p .body) (p .len)) ≡ ok (p .head))) × (length (now counts) ≡ 256) × (length (now lens) ≡ 2048) × (length (now xs) ≡ 2048) × (length (now ys) ≡ 2048) ⌝ }
+    ensures { λ r. ⌜ Meets (pageHits a k n (pageOf (now (s .entry)) p)) n (n + p .head .g) r (now (flags .entry)) (now (flags .exit)) ⌝ }
+{
+    let g = p.head.g;
+    let v = p.head.v;
+    let m = p.head.p;
+    if !opens(a, v, p.head.bounds) {
+        return Counted::Hits(0);
+    }
+    let from = p.body;
+    let to = from + p.len;
+    contents_hit(
+        a,
+        k,
+        n,
+        &s[from..to],
+        p.head,
+        &mut counts[..g],
+        &mut lens[..m],
+        &mut xs[..v],
+        &mut ys[..v],
+        flags,
+    )
+}
+
+// The hits of a file whose frame is sound, from the cursor after its first block.
+pub fn walk_hits(
+    a: Ask,
+    s: &[u8],
+    from: Cursor,
+    counts: &mut [u16],
+    lens: &mut [u16],
+    xs: &mut [u64],
+    ys: &mut [u64],
+    flags: &mut [u8],
+) -> Counted
+    requires { ⌜ (sound (a .query) ≡ true) × ((f : Frame) × (frameOf (now s) ≡ ok f)) × (firstOf (now s) ≡ ok from) × (length (now counts) ≡ 256) × (length (now lens) ≡ 2048) × (length (now xs) ≡ 2048) × (length (now ys) ≡ 2048) ⌝ }
+    ensures { λ r. ⌜ Meets (metIn a (now (s .entry))) 0 262144 r (now (flags .entry)) (now (flags .exit)) ⌝ }
+{
+    let mut c = from;
+    let mut found: usize = 0;
+    loop {
+        match step(s, c) {
+            Step::Page(p) => {
+                match page_hits(a, c.pages, c.shapes, s, p, counts, lens, xs, ys, flags) {
+                    Counted::Hits(n) => {
+                        found += n;
+                        c = p.next;
+                    }
+                    Counted::Refused(w) => {
+                        return Counted::Refused(w);
+                    }
+                }
+            }
+            Step::End => {
+                return Counted::Hits(found);
+            }
+            Step::Refused(w) => {
+                return Counted::Refused(w);
+            }
+        }
+    }
+}

@@ -1,0 +1,29 @@
+// The search: the places of the hits at the start of a lent list.
+ghost use lib.ListN.{length};
+ghost use Rattle.answer.specs.Outcome.{Fills};
+ghost use Rattle.search.specs.Search.{searchOf};
+use crate::count::Counted;
+use crate::flags::list_flags;
+use crate::found::hits_of;
+use answer::Filled;
+use answer::Refusal;
+use answer::table::ROOM;
+use query::ask::Ask;
+
+// Lists the places of what a query hits in a file, any bytes. One bit for each place of a file is kept, so that each page is decoded once and
+// nothing is written before the last refusal is past.
+pub fn search(a: Ask, s: &[u8], out: &mut [u32]) -> Filled
+    ensures { λ r. ⌜ Fills (searchOf a (now (s .entry)) (length (now (out .entry)))) (now (out .entry)) r (now (out .exit)) ⌝ }
+{
+    let mut flags = [0u8; 32768];
+    match hits_of(a, s, &mut flags) {
+        Counted::Refused(w) => Filled::Refused(w),
+        Counted::Hits(n) => {
+            if out.len() < n {
+                return Filled::Refused(Refusal::because(ROOM));
+            }
+            list_flags(&flags, n, out);
+            Filled::Start(n)
+        }
+    }
+}

@@ -1,0 +1,59 @@
+-- `viewer::count::boundary_count` is the word of the count-only search's answer. Assumes nothing.
+use Rattle.viewer.proofs.Words.{word-unasked, word-hits, word-uncounted}
+use borrow.Author.Needs.{needs}
+use Rattle.viewer.proofs.count.boundary_count.Statement.{statement}
+use Rattle.viewer.proofs.count.boundary_count.Tie as tie
+use Rattle.viewer.proofs.count.boundary_count.Reads as reads
+use Rattle.viewer.proofs.count.boundary_count.Lts as lts
+use Rattle.query.proofs.block.ask_of.Reads as ask-of-reads
+use Rattle.search.proofs.count.count.Reads as count-reads
+use Rattle.viewer.proofs.word.refusal_word.Reads as refusal-word-reads
+
+ask-of-requires : tie.Need-ask-of-requires
+ask-of-requires c κs = search needs
+
+enum-known-w : tie.Need-enum-known-w
+enum-known-w c = search needs
+
+refusal-word-requires : tie.Need-refusal-word-requires
+refusal-word-requires c κs = search needs
+
+enum-known-a : tie.Need-enum-known-a
+enum-known-a c = search needs
+
+count-requires : tie.Need-count-requires
+count-requires c κs = search needs
+
+enum-known-n : tie.Need-enum-known-n
+enum-known-n c = search needs
+
+enum-known-w-2 : tie.Need-enum-known-w-2
+enum-known-w-2 c = search needs
+
+refusal-word-requires-2 : tie.Need-refusal-word-requires-2
+refusal-word-requires-2 c κs = search needs
+
+returns : tie.Need-returns
+returns c = word-unasked _ _ _ (c .before .before .before .before .ask-of .ensures) _ _ (c .before .before .w .given .1) (c .refusal-word .ensures)
+
+returns-2 : tie.Need-returns-2
+returns-2 c = word-hits _ _ _ (c .before .before .before .before .before .before .before .ask-of .ensures) _ (c .before .before .before .before .before .a .given .1) _ (c .before .before .before .count .ensures) _ (c .before .n .given .1)
+
+returns-3 : tie.Need-returns-3
+returns-3 c = word-uncounted _ _ _ (c .before .before .before .before .before .before .before .before .ask-of .ensures) _ (c .before .before .before .before .before .before .a .given .1) _ (c .before .before .before .before .count .ensures) _ _ (c .before .before .w2 .given .1) (c .refusal-word2 .ensures)
+
+pub boundary-count-spec : {M : Type 1} → statement M
+boundary-count-spec =
+    tie.close
+    (tie.spec
+    ask-of-requires
+    enum-known-w
+    refusal-word-requires
+    enum-known-a
+    count-requires
+    enum-known-n
+    enum-known-w-2
+    refusal-word-requires-2
+    returns
+    returns-2
+    returns-3)
