@@ -76,8 +76,11 @@ pub fn best_width(values: &[u64]) -> u32 {
 /// the first pattern in 64 bits, then one entry for each later value."
 fn column_bits(values: &[u64], n: u32) -> Vec<bool> {
     let mut list = Vec::new();
-    let Some(first) = values.first() else {
-        return list; // "N = 0: no bytes at all."
+    let first = match values.first() {
+        Some(first) => first,
+        None => {
+            return list; // "N = 0: no bytes at all."
+        }
     };
     bits::push_field(&mut list, u64::from(n), 8);
     bits::push_field(&mut list, *first, 64);
@@ -121,28 +124,40 @@ pub fn values_of(bytes: &[u8], n: usize) -> Result<Vec<u64>, u8> {
     if n == 0 {
         return if bytes.is_empty() { Ok(values) } else { Err(9) };
     }
-    let Some(width) = bits::field(bytes, 0, 8) else {
-        return Err(9);
+    let width = match bits::field(bytes, 0, 8) {
+        Some(width) => width,
+        None => {
+            return Err(9);
+        }
     };
     if width > u64::from(MOST_WIDTH) {
         return Err(8);
     }
     let width = width as u32;
     let mut place: u128 = 8;
-    let Some(first) = bits::field(bytes, place, 64) else {
-        return Err(9);
+    let first = match bits::field(bytes, place, 64) {
+        Some(first) => first,
+        None => {
+            return Err(9);
+        }
     };
     place += 64;
     values.push(first);
     let mut last = first;
     while values.len() < n {
-        let Some(entry) = bits::field(bytes, place, u128::from(width)) else {
-            return Err(9);
+        let entry = match bits::field(bytes, place, u128::from(width)) {
+            Some(entry) => entry,
+            None => {
+                return Err(9);
+            }
         };
         place += u128::from(width);
         if u128::from(entry) == marker(width) {
-            let Some(full) = bits::field(bytes, place, 64) else {
-                return Err(9);
+            let full = match bits::field(bytes, place, 64) {
+                Some(full) => full,
+                None => {
+                    return Err(9);
+                }
             };
             place += 64;
             last = full;
@@ -161,8 +176,11 @@ pub fn read(bytes: &[u8], n: usize, room: &mut [u64]) -> Result<(), Refusal> {
     if n > MOST_VALUES {
         return Err(refused(3));
     }
-    let Some(start) = room.get_mut(..n) else {
-        return Err(refused(2));
+    let start = match room.get_mut(..n) {
+        Some(start) => start,
+        None => {
+            return Err(refused(2));
+        }
     };
     let values = values_of(bytes, n).map_err(refused)?;
     start.copy_from_slice(&values);

@@ -41,12 +41,13 @@ pub fn fetch(
                     ys.extend_from_slice(stretch(&coordinates.ys, part.from, part.to));
                 }
             }
-            let (Some(start_lengths), Some(start_xs), Some(start_ys)) = (
+            let (start_lengths, start_xs, start_ys) = match (
                 room_lengths.get_mut(..lengths.len()),
                 room_xs.get_mut(..xs.len()),
                 room_ys.get_mut(..ys.len()),
-            ) else {
-                return Err(refused(2));
+            ) {
+                (Some(lengths), Some(xs), Some(ys)) => (lengths, xs, ys),
+                _ => return Err(refused(2)),
             };
             start_lengths.copy_from_slice(&lengths);
             start_xs.copy_from_slice(&xs);

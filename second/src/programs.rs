@@ -41,8 +41,11 @@ pub fn sound_text(file: &[u8]) -> String {
 /// (1), the file's size (3), then the order of the search, its room being
 /// 4,096 hits (2).
 fn try_list(input: &[u8]) -> Result<String, Refusal> {
-    let Some((query, file)) = split_block(input) else {
-        return Err(refused(1));
+    let (query, file) = match split_block(input) {
+        Some((query, file)) => (query, file),
+        None => {
+            return Err(refused(1));
+        }
     };
     if file.len() > MOST_FILE {
         return Err(refused(3));

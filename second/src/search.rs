@@ -82,8 +82,11 @@ pub fn hits(file: &[u8], query: &Query) -> Result<Hits, Refusal> {
 pub fn search(file: &[u8], query: &Query, room: &mut [u32]) -> Result<usize, Refusal> {
     let found = hits(file, query)?;
     let count = found.hits.len();
-    let Some(start) = room.get_mut(..count) else {
-        return Err(refused(2));
+    let start = match room.get_mut(..count) {
+        Some(start) => start,
+        None => {
+            return Err(refused(2));
+        }
     };
     for (place, hit) in start.iter_mut().zip(&found.hits) {
         *place = hit.place;

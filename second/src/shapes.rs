@@ -51,8 +51,11 @@ pub fn parts_of(lists: &Lists) -> Vec<Part> {
     let mut from: usize = 0;
     for (shape, (kind, count)) in lists.types.iter().zip(lists.part_counts).enumerate() {
         for k in 0..*count {
-            let Some(length) = lengths.next() else {
-                return parts;
+            let length = match lengths.next() {
+                Some(length) => length,
+                None => {
+                    return parts;
+                }
             };
             let to = from.saturating_add(usize::from(*length));
             parts.push(Part {
@@ -107,8 +110,11 @@ pub fn rule_11(lists: &Lists, v: usize) -> bool {
         }
     }
     for part in parts_of(lists) {
-        let Some(row) = row_of(part.kind) else {
-            return false;
+        let row = match row_of(part.kind) {
+            Some(row) => row,
+            None => {
+                return false;
+            }
         };
         let length = part.to - part.from;
         if length < row.least_vertices || length > row.most_vertices {
@@ -203,8 +209,11 @@ pub fn rule_15(lists: &Lists, xs: &[u64], ys: &[u64]) -> bool {
         }
         let px = stretch(xs, part.from, part.to);
         let py = stretch(ys, part.from, part.to);
-        let Some(turn) = turn(px, py) else {
-            return false;
+        let turn = match turn(px, py) {
+            Some(turn) => turn,
+            None => {
+                return false;
+            }
         };
         if turn == 0 {
             return false;

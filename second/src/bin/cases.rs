@@ -66,9 +66,12 @@ fn write_all(cases: &list::Cases, folder: &Path) -> std::io::Result<()> {
 }
 
 fn main() -> ExitCode {
-    let Some(folder) = std::env::args_os().nth(1) else {
-        eprintln!("usage: cases FOLDER");
-        return ExitCode::FAILURE;
+    let folder = match std::env::args_os().nth(1) {
+        Some(folder) => folder,
+        None => {
+            eprintln!("usage: cases FOLDER");
+            return ExitCode::FAILURE;
+        }
     };
     let mut cases = list::Cases::default();
     sound_files::all(&mut cases);

@@ -135,7 +135,7 @@ pub fn width_column(values: &[u64], width: u32, full: &[bool]) -> Vec<u8> {
             }
         }
     }
-    let mut bytes = vec![0u8; bits.len().div_ceil(8)];
+    let mut bytes = vec![0u8; (bits.len() + 7) / 8];
     for (k, bit) in bits.iter().enumerate() {
         bytes[k / 8] |= bit << (k % 8);
     }
@@ -191,8 +191,11 @@ pub fn patterns(values: &[f64]) -> Vec<u64> {
 /// The first least and first greatest of the finite values; zeros for none.
 fn least_and_greatest(values: &[f64]) -> (u64, u64) {
     let finite: Vec<f64> = values.iter().copied().filter(|v| v.is_finite()).collect();
-    let Some(first) = finite.first() else {
-        return (0, 0);
+    let first = match finite.first() {
+        Some(first) => first,
+        None => {
+            return (0, 0);
+        }
     };
     let mut least = *first;
     let mut greatest = *first;
