@@ -65,12 +65,6 @@ size-least P b n at =
     (λ (l : marker n ≤ field b at n). omega (arith, size-full P b n at 0 (field b at n) refl l))
     (short-or-full (field b at n) (marker n))
 
-pub value-lt : (P b n at a : ℕ) → valueAt P b n at a < 2 ^ P
-value-lt P b n at a =
-    ⊎-elim (λ (l : field b at n < marker n). rw (value-short P b n at a (field b at n) refl l) (mod-lt (a + unzigzag P (field b at n)) (pow-pos P)))
-    (λ (l : marker n ≤ field b at n). rw (value-full P b n at a (field b at n) refl l) (mod-lt (b / 2 ^ (at + n)) (pow-pos P)))
-    (short-or-full (field b at n) (marker n))
-
 -- ---- one entry more, and the place only grows
 
 pub after-step : (P b n k at : ℕ) → 0 < k → after P b n k at ≡ after P b n (k - 1) (at + sizeAt P b n at)

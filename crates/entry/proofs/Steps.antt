@@ -101,13 +101,6 @@ z-back P a z p ha hz =
     let e : u ≡ step P a ((a + u) % 2 ^ P) = sub-law (2 ^ P) u a ((a + u) % 2 ^ P) (unzig-lt P z hz) ha (ap (λ (x : ℕ). x % 2 ^ P) f) in
     ap (zigzag P) (sym e) ∙ zig-unzig P z p hz
 
-pub zig-lt : (P d : ℕ) → d < 2 ^ P → zigzag P d < 2 ^ P
-zig-lt P d h = go (ltb (d * 2) (2 ^ P)) refl
-  where
-    go : (t : Bool) → ltb (d * 2) (2 ^ P) ≡ t → zigzag P d < 2 ^ P
-    go true e = let l : d * 2 < 2 ^ P = ltb-true _ _ e in omega (arith, zig-even P d l)
-    go false e = let l : 2 ^ P ≤ d * 2 = ltb-false _ _ e in omega (arith, zig-odd P d l)
-
 -- ---- what the code computes, for a difference d that it has
 
 pub zig-low : (P a v d : ℕ) → d ≡ step P a v → d * 2 < 2 ^ P → d * 2 ≡ zOf P a v

@@ -86,7 +86,7 @@ fn spot(x: u64, y: u64) -> Box
 }
 
 // The box with one vertex more.
-pub fn grown(b: Box, x: u64, y: u64) -> Box
+fn grown(b: Box, x: u64, y: u64) -> Box
     requires { ⌜ FiniteBox (patterns b) × (finite x ≡ true) × (finite y ≡ true) ⌝ }
     ensures { λ r. ⌜ patterns r ≡ withVertex (patterns b) x y ⌝ }
 {

@@ -12,7 +12,7 @@ use crate::number::u64_at;
 use crate::number::wide;
 
 // The w low bits of x.
-pub fn mask(x: u64, w: u64) -> u64
+fn mask(x: u64, w: u64) -> u64
     requires { ⌜ w ≤ 64 ⌝ }
     ensures { λ r. ⌜ r ≡ x % 2 ^ w ⌝ }
 {

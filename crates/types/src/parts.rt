@@ -109,7 +109,7 @@ fn parts_agree(types: &[u8], counts: &[u16], lens: &[u16]) -> bool
 }
 
 // Whether rule 11 holds, for any lists.
-pub fn parts_hold(types: &[u8], counts: &[u16], lens: &[u16], v: usize) -> bool
+fn parts_hold(types: &[u8], counts: &[u16], lens: &[u16], v: usize) -> bool
     ensures { λ r. ⌜ r ≡ partsHold (now (types .entry)) (now (counts .entry)) (now (lens .entry)) v ⌝ }
 {
     if parts_agree(types, counts, lens) {
