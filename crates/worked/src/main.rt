@@ -135,7 +135,7 @@ fn try_run(s: &[u8], n: usize) {
 
 // One call: prints what it gives, and gives the position that it hands back.
 fn try_next(s: &[u8], n: usize, p: Position) -> Position {
-    match reader::next(s, n, p) {
+    match holder::answer_at(s, n, p) {
         Answer::Value(v, q) => {
             say(b" ");
             show_number(v);
