@@ -22,6 +22,11 @@ pub fn refused(w: Refusal) -> bool {
         && say(b"\n")
 }
 
+// How many hits there are, of how many shapes, as a line.
+pub fn hits(hits: usize, shapes: usize) -> bool {
+    say(b"hits ") && number(hits as u64) && say(b" of ") && number(shapes as u64) && say(b"\n")
+}
+
 // The full check's answer, as a line.
 pub fn checked(answer: Checked) -> bool {
     match answer {

@@ -5,12 +5,10 @@ use mathlib.Core.Bool.{Bool, true, false}
 use mathlib.Core.List.{List, [], _∷_, _++_}
 use Prim.Native.Nat.{ℕ, suc, _+_, _≤_}
 use native.Mathlib.Omega.{arith}
-use lib.Dec.{leb}
 use lib.ListN.{length, take}
 use Rattle.answer.specs.Table as table
-use Rattle.answer.specs.Refusal.{because}
 use Rattle.answer.specs.Rule.{rule}
-use Rattle.answer.specs.Outcome.{Out, ok, need, on}
+use Rattle.answer.specs.Outcome.{Out, ok, on}
 use Rattle.answer.proofs.Outcomes.{ok-inj}
 use Rattle.le.specs.Number.{numberAt}
 use Rattle.le.proofs.Bytes.{number-at-part}
@@ -31,6 +29,7 @@ use Rattle.search.specs.Search.{pageHits, metOf, hitsOf, searchOf, count
 use Rattle.search.specs.Alike.{AlikePage, Alike, none, more}
 use Rattle.search.proofs.Sequence.{met-cons, met-order, hits-order}
 use Rattle.search.proofs.Opened.{page-closed}
+use Rattle.search.proofs.Services.{search-by-hits}
 
 -- ---- a head, by the bytes to the end of its box
 
@@ -133,8 +132,7 @@ module _ (a : Ask) (s t : List ℕ) (f h : Frame) (es : frameOf s ≡ ok f) (et 
 
   -- the search, with any room
   pub search-same : (room : ℕ) → searchOf a s room ≡ searchOf a t room
-  unfolding searchOf
-  search-same room = ap (λ (o : Out (List ℕ)). on o (λ l. need (leb (length l) room) (because table.room) (ok l))) hits-same
+  search-same room = search-by-hits a s t room hits-same
 
   -- the count
   pub count-same : countOf a s ≡ countOf a t

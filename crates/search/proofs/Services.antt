@@ -5,6 +5,7 @@ use mathlib.Core.List.{List, _++_}
 use Prim.Native.Nat.{ℕ, zero, suc, _+_, _≤_, _<_}
 use native.Mathlib.Omega.{arith}
 use borrow.Author.Tests.{le-leb, lt-leb}
+use lib.Dec.{leb}
 use lib.ListN.{length, drop, replicate}
 use lib.Seq.{sets, sets-eq}
 use Rattle.answer.specs.Table as table
@@ -12,7 +13,7 @@ use Rattle.answer.specs.declared.Refusal.{Refusal}
 use Rattle.answer.specs.declared.Filled.the-variants as filled
 use Rattle.answer.specs.declared.Verdict.the-variants as verdict
 use Rattle.answer.specs.Refusal.{because}
-use Rattle.answer.specs.Outcome.{refused, ok, on, Fills}
+use Rattle.answer.specs.Outcome.{Out, refused, ok, need, on, Fills}
 use Rattle.answer.specs.Rule.{rule, judged}
 use Rattle.answer.proofs.Outcomes.{never, ok-inj, refused-inj, met, unmet, fills-refused, fills-ok}
 use Rattle.answer.proofs.Rules.{judged-holds, rule-ok}
@@ -76,6 +77,11 @@ module _ (a : Ask) (s : List ℕ) (room : ℕ) where
     pub search-hits : length l ≤ room → searchOf a s room ≡ ok l
     unfolding searchOf
     search-hits h = on-value (hitsOf a s) _ l e ∙ met (because table.room) (ok l) (le-leb (length l) room h)
+
+-- nothing but the hits counts
+pub search-by-hits : (a : Ask) (s t : List ℕ) (room : ℕ) → hitsOf a s ≡ hitsOf a t → searchOf a s room ≡ searchOf a t room
+unfolding searchOf
+search-by-hits a s t room = ap (λ (o : Out (List ℕ)). on o (λ l. need (leb (length l) room) (because table.room) (ok l)))
 
 -- flags that are all clear
 pub number-zeros : (n : ℕ) → number (replicate n 0) ≡ 0

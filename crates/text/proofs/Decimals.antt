@@ -1,0 +1,112 @@
+-- Shown here: the fewest digits that hold a number are its decimal, of at most 20 digits where the number has 64 bits. Nothing is assumed.
+use Prim.Native.Nat.{ℕ, zero, suc, _+_, _-_, _*_, _/_, _%_, _^_, _≤_, _<_}
+use mathlib.Core.Path.{_≡_, refl, sym, ap, ap₂, _∙_}
+use mathlib.Core.Bool.{Bool, true, false, cond}
+use mathlib.Core.List.{List, [], _∷_, _++_}
+use native.Mathlib.Nat.{one-le-pow, zero-lt-suc, pow-le-pow-right, mod-eq-of-lt}
+use native.Mathlib.Numerals.{unary-clauses}
+use native.Mathlib.Omega.{arith}
+use borrow.Author.Tests.{lt-ltb, le-ltb, leb-true, leb-false}
+use lib.ListN.{length, length-append, set, take}
+use lib.Seq.{sets}
+use lib.Dec.{ltb, leb}
+use Rattle.io.specs.Counts.{Counts}
+use Rattle.io.specs.Digits.{digits, glyph, Fewest}
+use Rattle.le.proofs.Stores.{sets-append}
+use Rattle.text.specs.Decimal.{digitsOf, decimal, marked, row}
+
+-- a number below ten is its one digit
+digits-one : (m n : ℕ) → n < 10 → digitsOf (suc m) n ≡ (48 + n) ∷ []
+unfolding digitsOf
+digits-one m n h = ap (λ (b : Bool). cond b ((48 + n) ∷ []) (digitsOf m (n / 10) ++ ((48 + n % 10) ∷ []))) (lt-ltb n 10 h)
+
+-- any other has digits before its last one
+digits-more : (m n : ℕ) → 10 ≤ n → digitsOf (suc m) n ≡ digitsOf m (n / 10) ++ ((48 + n % 10) ∷ [])
+unfolding digitsOf
+digits-more m n h = ap (λ (b : Bool). cond b ((48 + n) ∷ []) (digitsOf m (n / 10) ++ ((48 + n % 10) ∷ []))) (le-ltb n 10 h)
+
+-- a digit's code
+glyph-is : (d : ℕ) → d < 10 → glyph d ≡ 48 + d
+glyph-is d h = ap (λ (b : Bool). cond b (48 + d) (87 + d)) (lt-ltb d 10 h)
+
+-- the digits before the last one are the fewest of what stands before it
+fewer : (k n : ℕ) → Fewest 10 1 n (suc (suc k)) → Fewest 10 1 (n / 10) (suc k)
+fewer k n f =
+    let p = 10 ^ k in
+    let l : p * 10 ≤ n = simp unary-clauses at (f .2 (omega arith)) in
+    let u : n < p * 10 * 10 = simp unary-clauses at (f .1) in (
+      omega arith,
+      simp unary-clauses (let h : n / 10 < p * 10 = omega arith in h),
+      λ _. simp unary-clauses (let h : p ≤ n / 10 = omega arith in h),
+    )
+
+-- the fewest digits that hold a number are its decimal
+pub fewest-decimal : (k m n : ℕ) → Fewest 10 1 n (suc k) → k < m → digits 10 (suc k) n ≡ digitsOf m n
+fewest-decimal k zero n f h = absurd (let z : 1 ≤ 0 = omega arith in omega arith)
+fewest-decimal zero (suc m) n f h =
+    let u : n < 10 = f .1 in
+    ap (λ (d : ℕ). d ∷ []) (ap glyph (mod-eq-of-lt u) ∙ glyph-is n u) ∙ sym (digits-one m n u)
+fewest-decimal (suc k) (suc m) n f h =
+    let l : 10 ^ k * 10 ≤ n = simp unary-clauses at (f .2 (omega arith)) in
+    let g : 0 < 10 ^ k = one-le-pow k 10 (zero-lt-suc 9) in
+    ap₂ (λ (l : List ℕ) (d : ℕ). l ++ (d ∷ [])) (fewest-decimal k m (n / 10) (fewer k n f) (omega arith)) (glyph-is (n % 10) (omega arith))
+    ∙ sym (digits-more m n (omega arith))
+
+-- a number of 64 bits takes at most 20
+pub fewest-20 : (n k : ℕ) → Fewest 10 1 n k → n < 2 ^ 64 → k ≤ 20
+fewest-20 n k f u = go (leb k 20) refl
+  where
+    go : (b : Bool) → leb k 20 ≡ b → k ≤ 20
+    go true e = leb-true k 20 e
+    go false e =
+        let h : 20 < k = leb-false k 20 e in
+        let j : 20 ≤ k - 1 = omega arith in
+        let l : 10 ^ (k - 1) ≤ n = f .2 (omega arith) in
+        let p : 10 ^ 20 ≤ 10 ^ (k - 1) = pow-le-pow-right (zero-lt-suc 9) j in
+        absurd (let z : 2 ^ 64 ≤ 10 ^ 20 = omega arith in omega arith)
+
+-- so does its decimal
+pub digits-length : (k n : ℕ) → length (digitsOf k n) ≤ k
+unfolding digitsOf
+digits-length zero n = omega arith
+digits-length (suc k) n = go (ltb n 10) (digits-length k (n / 10))
+  where
+    go : (b : Bool) → length (digitsOf k (n / 10)) ≤ k → length (cond b ((48 + n) ∷ []) (digitsOf k (n / 10) ++ ((48 + n % 10) ∷ []))) ≤ suc k
+    go true h = omega arith
+    go false h = omega (arith, length-append (digitsOf k (n / 10)) ((48 + n % 10) ∷ []))
+
+-- so what is put for a number and its mark is theirs
+pub marked-put : (d t l : List ℕ) (at k n mark : ℕ) → n < 2 ^ 64 → Fewest 10 1 n k → Counts k l → take k l ≡ digits 10 k n → t ≡ sets d at (take k l)
+    → (at + k + 1 ≡ at + length (marked n mark)) × (set t (at + k) mark ≡ sets d at (marked n mark))
+unfolding decimal marked
+marked-put d t l at zero n mark u f c e g = absurd (let z : 1 ≤ 0 = f .0 in omega arith)
+marked-put d t l at (suc k) n mark u f c e g =
+    let s : take (suc k) l ≡ digitsOf 20 n = e ∙ fewest-decimal k 20 n f (fewest-20 n (suc k) f u) in
+    let m : suc k ≡ length (digitsOf 20 n) = c .1 ∙ ap length s in (
+      omega (arith, length-append (digitsOf 20 n) (mark ∷ [])),
+      ap₂ (λ (x : List ℕ) (j : ℕ). set x (at + j) mark) (g ∙ ap (sets d at) s) m ∙ sym (sets-append (digitsOf 20 n) (mark ∷ []) d at),
+    )
+
+pub marked-length : (n mark : ℕ) → length (marked n mark) ≤ 21
+unfolding decimal marked
+marked-length n mark = omega (arith, digits-length 20 n, length-append (digitsOf 20 n) (mark ∷ []))
+
+-- and what is put for the three numbers of a row is the row
+pub row-put : (d t u v : List ℕ) (at a b c place register kind : ℕ)
+    → (a ≡ at + length (marked place 32)) × (t ≡ sets d at (marked place 32))
+    → (b ≡ a + length (marked register 32)) × (u ≡ sets t a (marked register 32))
+    → (c ≡ b + length (marked kind 10)) × (v ≡ sets u b (marked kind 10))
+    → (c ≡ at + length (row place register kind)) × (length (row place register kind) ≤ 63) × (v ≡ sets d at (row place register kind))
+unfolding row
+row-put d t u v at a b c place register kind p q r =
+    let x = marked place 32 in
+    let y = marked register 32 in
+    let z = marked kind 10 in
+    let m : length (x ++ (y ++ z)) ≡ length x + (length y + length z) = length-append x (y ++ z) ∙ ap (λ (n : ℕ). length x + n) (length-append y z) in (
+      omega (arith, m, p .0, q .0, r .0),
+      omega (arith, m, marked-length place 32, marked-length register 32, marked-length kind 10),
+      r .1
+          ∙ ap₂ (λ (l : List ℕ) (j : ℕ). sets l j z) (q .1 ∙ ap₂ (λ (l : List ℕ) (j : ℕ). sets l j y) (p .1) (p .0)) (q .0 ∙ ap (λ (j : ℕ). j + length y) (p .0))
+          ∙ sym (sets-append y z (sets d at x) (at + length x))
+          ∙ sym (sets-append x (y ++ z) d at),
+    )

@@ -1,0 +1,34 @@
+-- `text::put_row` puts the three numbers of a row, each with its mark. Nothing is assumed.
+use Rattle.text.proofs.Decimals.{marked-length, row-put}
+use native.Mathlib.Omega.{arith}
+use borrow.Author.Needs.{needs}
+use Rattle.text.proofs.put_row.Statement.{statement}
+use Rattle.text.proofs.put_row.Tie as tie
+use Rattle.text.proofs.put_row.Reads as reads
+use Rattle.text.proofs.put_row.Lts as lts
+use Rattle.text.proofs.put_marked.Reads as put-marked-reads
+
+-- src/lib.rt:28:9
+put-marked-requires : tie.Need-put-marked-requires
+put-marked-requires c κs = search needs
+
+-- src/lib.rt:29:9
+put-marked-requires-2 : tie.Need-put-marked-requires-2
+put-marked-requires-2 c κs = let a = c .before .before .before .before .before .before .args in omega (arith, c .before .before .before .before .before .before .pre, c .before .before .before .put-marked .ensures .0, c .before .before .out .given, marked-length (a .place) 32)
+
+-- src/lib.rt:30:5
+put-marked-requires-3 : tie.Need-put-marked-requires-3
+put-marked-requires-3 c κs = let a = c .before .before .before .before .before .before .before .before .before .before .args in omega (arith, c .before .before .before .before .before .before .before .before .before .before .pre, c .before .before .before .before .before .before .before .put-marked .ensures .0, c .before .before .before .before .before .before .out .given, c .before .before .before .put-marked2 .ensures .0, c .before .before .out2 .given, marked-length (a .place) 32, marked-length (a .register) 32)
+
+-- src/lib.rt:24:1
+same-length : tie.Need-same-length
+same-length c = search needs
+
+-- src/lib.rt:24:1
+returns : tie.Need-returns
+returns c = let a = c .before .before .before .before .before .before .before .before .before .before .before .before .before .args in row-put (a .out .now) _ _ _ (a .at) _ _ _ (a .place) (a .register) (a .kind) (c .before .before .before .before .before .before .before .before .before .before .put-marked .ensures) (c .before .before .before .before .before .before .put-marked2 .ensures) (c .before .before .put-marked3 .ensures)
+
+pub put-row-spec : {M : Type 1} → statement M
+put-row-spec =
+    tie.close
+    (tie.spec put-marked-requires put-marked-requires-2 put-marked-requires-3 same-length returns)
