@@ -6,3 +6,4 @@ pub mod Worked
 pub mod Sampled
 pub mod SoundFiles
 pub mod Writings
+pub mod Numbers

@@ -2,3 +2,4 @@ pub mod Worked
 pub mod Sample
 pub mod SoundFile
 pub mod Writing
+pub mod Numbers

@@ -1,0 +1,63 @@
+-- Which refusal numbers a service can give: the lists of document 01's "Order". Assumes nothing.
+use Prim.Native.Nat.{ℕ}
+use mathlib.Core.Path.{_≡_}
+use mathlib.Core.Bool.{Bool, true, false, _||_}
+use mathlib.Core.List.{List, [], _∷_, _++_}
+use lib.Dec.{eqb}
+use Rattle.answer.specs.declared.Refusal.{Refusal}
+use Rattle.answer.specs.Outcome.{Out, refused}
+
+-- a number is one of these
+unfoldable pub oneOf : ℕ → List ℕ → Bool
+oneOf n [] = false
+oneOf n (m ∷ ms) = eqb n m || oneOf n ms
+
+-- whatever refusal an outcome is, its number is one of these
+pub record Gives {A : Type 0} (ns : List ℕ) (o : Out A) : Type 0 where
+  pub number : (w : Refusal) → o ≡ refused w → oneOf (w .number) ns ≡ true
+
+-- "Column write: 3, 2"
+abbrev pub columnWrite : List ℕ
+columnWrite = 3 ∷ 2 ∷ []
+
+-- a column's bits: 8, 9, 10
+abbrev pub columnBits : List ℕ
+columnBits = 8 ∷ 9 ∷ 10 ∷ []
+
+-- "Column read: 3, 2, then 8, 9, 10"
+abbrev pub columnRead : List ℕ
+columnRead = 3 ∷ 2 ∷ columnBits
+
+-- one value a call: "end, or 3, 8, 9 or 10"
+abbrev pub columnStep : List ℕ
+columnStep = 3 ∷ columnBits
+
+-- "Frame, block by block": 3, 4, 5, 6, 7
+abbrev pub frame : List ℕ
+frame = 3 ∷ 4 ∷ 5 ∷ 6 ∷ 7 ∷ []
+
+-- "Page contents: 11, x column, y column, 12, 13, 14, 15, 16"
+abbrev pub contents : List ℕ
+contents = 11 ∷ columnBits ++ (12 ∷ 13 ∷ 14 ∷ 15 ∷ 16 ∷ [])
+
+-- "Full check: frame, then each page's contents"
+abbrev pub check : List ℕ
+check = frame ++ contents
+
+-- "Search: 1, frame, contents of each page whose box meets the query, in order, then 2"
+abbrev pub search : List ℕ
+search = 1 ∷ check ++ (2 ∷ [])
+
+-- "A count-only search gives the number of hits and never 2"
+abbrev pub count : List ℕ
+count = 1 ∷ check
+
+-- "Writer: open (2), page (18, 3, 6, 11, 12, 13, 14, 15, 2), close (18, 3, 2)"
+abbrev pub writerOpen : List ℕ
+writerOpen = 2 ∷ []
+
+abbrev pub writerPage : List ℕ
+writerPage = 18 ∷ 3 ∷ 6 ∷ 11 ∷ 12 ∷ 13 ∷ 14 ∷ 15 ∷ 2 ∷ []
+
+abbrev pub writerClose : List ℕ
+writerClose = 18 ∷ 3 ∷ 2 ∷ []
