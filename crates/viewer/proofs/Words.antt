@@ -1,8 +1,8 @@
--- Answers as words, by the ways through them; and two outcomes with one word are the same. Assumes nothing.
-use Prim.Native.Nat.{ℕ, _+_, _*_, _^_, _<_}
-use mathlib.Core.Path.{_≡_, refl, sym, ap, _∙_}
+-- Answers as words, by the ways through them: the full check, and the count of a query. Assumes nothing.
+use Prim.Native.Nat.{ℕ, _+_, _*_, _^_}
+use mathlib.Core.Path.{_≡_, refl, _∙_}
 use mathlib.Core.List.{List}
-use Rattle.answer.specs.Outcome.{Out, refused, ok, on}
+use Rattle.answer.specs.Outcome.{refused, ok, on}
 use Rattle.answer.specs.declared.Refusal.{Refusal}
 use Rattle.frame.specs.declared.walk.Totals.{Totals}
 use Rattle.file.specs.declared.check.Checked.{Checked}

@@ -1,8 +1,23 @@
 -- Answers as one word, for C: "low 32 bits the number, or the page of a refusal; bits 32 to 39 the refusal's number, 0 if none". Assumes nothing.
 use Prim.Native.Nat.{ℕ, _+_, _*_, _^_}
-use Rattle.answer.specs.Outcome.{Out, refused, ok}
+use mathlib.Core.Path.{_≡_}
+use mathlib.Core.List.{List}
+use Rattle.answer.specs.declared.Filled.{Filled}
+use Rattle.answer.specs.declared.Filled.the-variants as answer
+use Rattle.answer.specs.Outcome.{Out, refused, ok, on, filled}
 
 -- a number below 2 ^ 32, or a refusal
 unfoldable pub wordOf : Out ℕ → ℕ
 wordOf (ok n) = n
 wordOf (refused w) = w .number * 2 ^ 32 + w .page
+
+-- what the code's answer says: how many elements were put in a room, or the refusal
+unfoldable pub saidFilled : Filled → Out ℕ
+saidFilled (answer.Start n) = ok n
+saidFilled (answer.Refused w) = refused w
+
+-- the contract of a call that fills the start of a lent room which held d: of the outcome's value the word says that number, and the room has that
+-- list at its start; a refusal is said whole, and leaves the room
+pub record Told {A : Type 0} (o : Out A) (number : A → ℕ) (start : A → List ℕ) (d : List ℕ) (says : ℕ) (left : List ℕ) : Type 0 where
+  pub word : says ≡ wordOf (on o (λ a. ok (number a)))
+  pub room : left ≡ filled (on o (λ a. ok (start a))) d

@@ -1,0 +1,49 @@
+// The fetching of one shape: frame, 17, contents of its page, 2.
+ghost use lib.ListN.{length};
+ghost use Rattle.fetch.specs.Onward.{Seeks};
+ghost use Rattle.fetch.specs.Fetch.{roomsOf, fetchOf, Fetches};
+use crate::opened::opened;
+use crate::seek::Sought;
+use crate::seek::seek;
+use answer::Refusal;
+use frame::walk::FirstRead;
+use frame::walk::Framed;
+use frame::walk::first;
+use frame::walk::frame;
+
+// A shape that was fetched: its register and type, and how many part lengths and vertices stand at the start of the rooms.
+pub struct Found {
+    pub register: u32,
+    pub kind: u8,
+    pub parts: usize,
+    pub vertices: usize,
+}
+
+// The shape at a place, or the refusal, which leaves the rooms as they were.
+pub enum Fetched {
+    Shape(Found),
+    Refused(Refusal),
+}
+
+// The seat of a place of a file, any bytes.
+fn seat(s: &[u8], place: usize) -> Sought
+    ensures { λ r. ⌜ Seeks (now (s .entry)) place r ⌝ }
+{
+    if let Framed::Refused(w) = frame(s) {
+        return Sought::Refused(w);
+    }
+    match first(s) {
+        FirstRead::Refused(w) => Sought::Refused(w),
+        FirstRead::After(c) => seek(s, c, place),
+    }
+}
+
+// Fetches the shape at a place of a file, any bytes: its part lengths and the patterns of its vertices at the start of the lent rooms.
+pub fn fetch(s: &[u8], place: usize, lens: &mut [u16], xs: &mut [u64], ys: &mut [u64]) -> Fetched
+    ensures { λ r. ⌜ Fetches (fetchOf (now (s .entry)) place (roomsOf (now (lens .entry)) (now (xs .entry)) (now (ys .entry)))) (now (lens .entry)) (now (xs .entry)) (now (ys .entry)) r (now (lens .exit)) (now (xs .exit)) (now (ys .exit)) ⌝ }
+{
+    match seat(s, place) {
+        Sought::Refused(w) => Fetched::Refused(w),
+        Sought::At(t) => opened(s, t, lens, xs, ys),
+    }
+}

@@ -1,0 +1,98 @@
+-- A word taken apart: bits 0 to 31, and those above. What each call says is far below 2 ^ 32, so that nothing it says is taken for a refusal. Assumes nothing.
+use Prim.Native.Nat.{ℕ, zero, suc, _/_, _%_, _^_, _≤_, _<_}
+use mathlib.Core.Path.{_≡_, subst}
+use mathlib.Core.List.{List, []}
+use native.Mathlib.Omega.{arith}
+use lib.Dec.{leb}
+use lib.ListN.{length}
+use borrow.Author.Tests.{leb-true, ne-eqb}
+use Rattle.answer.specs.declared.Refusal.{Refusal}
+use Rattle.answer.specs.Outcome.{refused, ok}
+use Rattle.answer.proofs.Outcomes.{ok-inj, need-ok, on-ok}
+use Rattle.column.specs.Column.{encode}
+use Rattle.column.specs.Write.{writeOf}
+use Rattle.column.specs.Read.{saidBy, endOf, closed, someOf, decodeOf, readOf}
+use Rattle.column.proofs.Decoding.{length-said}
+use Rattle.column.proofs.Trips.{bytes-most}
+use Rattle.query.specs.declared.ask.Ask.{Ask}
+use Rattle.query.specs.Block.{askOf}
+use Rattle.frame.specs.declared.walk.Totals.{Totals}
+use Rattle.file.specs.Check.{checkOf}
+use Rattle.file.proofs.Checks.{check-accepts}
+use Rattle.search.specs.Search.{hitsOf, searchOf, countOf}
+use Rattle.search.proofs.Rising.{rising-few}
+use Rattle.search.proofs.Ordered.{frame-few, hits-within}
+use Rattle.reader.specs.Next.{Turn, value, end}
+use Rattle.viewer.specs.Word.{wordOf}
+use Rattle.viewer.specs.Calls.{searchCall, gives}
+
+pub said-apart : (n : ℕ) → n < 2 ^ 32 → (wordOf (ok n) / 2 ^ 32 ≡ 0) × (wordOf (ok n) % 2 ^ 32 ≡ n)
+unfolding wordOf
+said-apart n h = (omega arith, omega arith)
+
+pub refused-apart : (w : Refusal) → w .page < 2 ^ 32 → (wordOf (refused w) / 2 ^ 32 ≡ w .number) × (wordOf (refused w) % 2 ^ 32 ≡ w .page)
+unfolding wordOf
+refused-apart w h = (omega arith, omega arith)
+
+-- ---- what the calls say
+
+pub check-fits : (s : List ℕ) (t : Totals) → checkOf s ≡ ok t → t .shapes ≤ 262144
+check-fits s t e = let a = check-accepts s t e in subst (λ (t : Totals). t .shapes ≤ 262144) (a .4) (frame-few s (a .0) (a .2))
+
+hits-fit : (a : Ask) (s l : List ℕ) → hitsOf a s ≡ ok l → length l ≤ 262144
+hits-fit a s l e = let r = rising-few 0 l (omega arith) (hits-within a s l e) in omega (arith, r)
+
+pub count-fits : (a : Ask) (s : List ℕ) (n : ℕ) → countOf a s ≡ ok n → n ≤ 262144
+unfolding countOf
+count-fits a s n e = let x = on-ok (hitsOf a s) _ n e in subst (λ (k : ℕ). k ≤ 262144) (ok-inj (x .2)) (hits-fit a s (x .0) (x .1))
+
+search-few : (a : Ask) (s : List ℕ) (room : ℕ) (l : List ℕ) → searchOf a s room ≡ ok l → length l ≤ 262144
+unfolding searchOf
+search-few a s room l e =
+    let x = on-ok (hitsOf a s) _ l e in
+    let y = need-ok (leb (length (x .0)) room) _ _ l (x .2) in
+    subst (λ (k : List ℕ). length k ≤ 262144) (ok-inj (y .1)) (hits-fit a s (x .0) (x .1))
+
+pub search-fits : (query s : List ℕ) (room : ℕ) (l : List ℕ) → searchCall query s room ≡ ok l → length l ≤ 262144
+unfolding searchCall
+search-fits query s room l e = let x = on-ok (askOf query) _ l e in search-few (x .0) s room l (x .2)
+
+pub write-fits : (vs : List ℕ) (size : ℕ) (l : List ℕ) → writeOf 64 vs size ≡ ok l → length l ≤ 16385
+unfolding writeOf
+write-fits vs size l e =
+    let x = need-ok (leb (length vs) 2048) _ _ l e in
+    let y = need-ok (leb (length (encode 64 vs)) size) _ _ l (x .1) in
+    let h = leb-true (length vs) 2048 (x .0) in
+    let b = bytes-most vs in
+    subst (λ (k : List ℕ). length k ≤ 16385) (ok-inj (y .1)) (omega (arith, h, b))
+
+closed-ok : {A : Type 0} (s : List ℕ) (at : ℕ) (a b : A) → closed s at (ok a) ≡ ok b → a ≡ b
+unfolding closed
+closed-ok s at a b e = let x = need-ok _ _ _ b e in let y = need-ok _ _ _ b (x .1) in ok-inj (y .1)
+
+some-few : (P : ℕ) (s : List ℕ) (n : ℕ) (l : List ℕ) → 0 < n → someOf P s n ≡ ok l → length l ≤ n
+unfolding someOf
+some-few P s n l h e =
+    let x = need-ok _ _ _ l e in
+    let y = need-ok _ _ _ l (x .1) in
+    let q = length-said P s n h in
+    subst (λ (k : List ℕ). length k ≤ n) (closed-ok s (endOf P s n) (saidBy P s n) l (y .1)) (omega (arith, q))
+
+decode-few : (P : ℕ) (s : List ℕ) (n : ℕ) (l : List ℕ) → decodeOf P s n ≡ ok l → length l ≤ n
+unfolding decodeOf
+decode-few P s zero l e = subst (λ (k : List ℕ). length k ≤ 0) (closed-ok s 0 [] l e) (omega arith)
+decode-few P s (suc n) l e = some-few P s (suc n) l (omega arith) (simp (ne-eqb (suc n) 0 (λ z. omega arith)) at e)
+
+pub read-fits : (P : ℕ) (s : List ℕ) (n size : ℕ) (l : List ℕ) → readOf P s n size ≡ ok l → length l ≤ 2048
+unfolding readOf
+read-fits P s n size l e =
+    let x = need-ok (leb n 2048) _ _ l e in
+    let y = need-ok (leb n size) _ _ l (x .1) in
+    let h = leb-true n 2048 (x .0) in
+    let d = decode-few P s n l (y .1) in
+    omega (arith, h, d)
+
+pub step-fits : (t : Turn) → gives t ≤ 1
+unfolding gives
+step-fits (value v p) = omega arith
+step-fits end = omega arith

@@ -1,0 +1,46 @@
+-- `viewer::hits::boundary_search` tells the search, or the refusal of its query's block. Assumes nothing.
+use Rattle.viewer.proofs.Telling.{search-unasked, search-asked}
+use borrow.Author.Needs.{needs}
+use Rattle.viewer.proofs.hits.boundary_search.Statement.{statement}
+use Rattle.viewer.proofs.hits.boundary_search.Tie as tie
+
+ask-of-requires : tie.Need-ask-of-requires
+ask-of-requires c κs = search needs
+
+enum-known-w : tie.Need-enum-known-w
+enum-known-w c = search needs
+
+refusal-word-requires : tie.Need-refusal-word-requires
+refusal-word-requires c κs = search needs
+
+enum-known-a : tie.Need-enum-known-a
+enum-known-a c = search needs
+
+search-requires : tie.Need-search-requires
+search-requires c κs = search needs
+
+filled-word-requires : tie.Need-filled-word-requires
+filled-word-requires c κs = search needs
+
+returns : tie.Need-returns
+returns c = search-unasked _ _ _ _ (c .before .before .before .before .ask-of .ensures) _ _ (c .before .before .w .given .1) (c .refusal-word .ensures)
+
+same-length : tie.Need-same-length
+same-length c = search needs
+
+returns-2 : tie.Need-returns-2
+returns-2 c = search-asked _ _ _ _ (c .before .before .before .before .before .before .before .before .ask-of .ensures) _ _ _ _ (c .before .before .before .before .before .before .a .given .1) (c .before .before .before .search .ensures) (c .filled-word .ensures)
+
+pub boundary-search-spec : {M : Type 1} → statement M
+boundary-search-spec =
+    tie.close
+    (tie.spec
+    ask-of-requires
+    enum-known-w
+    refusal-word-requires
+    enum-known-a
+    search-requires
+    filled-word-requires
+    returns
+    same-length
+    returns-2)

@@ -1,0 +1,52 @@
+-- The calls on words and slices, by the services' own definitions. Assumes nothing.
+use Prim.Native.Nat.{ℕ}
+use mathlib.Core.Path.{_≡_}
+use mathlib.Core.List.{List, []}
+use Rattle.answer.specs.Outcome.{Out, on}
+use Rattle.query.specs.Block.{askOf}
+use Rattle.search.specs.Search.{searchOf}
+use Rattle.reader.specs.Next.{Turn, value, end, nextOf}
+use Rattle.pageblock.specs.Body.{Handed}
+use Rattle.writer.specs.State.{Added, openOf, pageStepOf, closeOf, bufferAfter}
+use Rattle.viewer.specs.Word.{Told}
+use Rattle.viewer.specs.Four.{fourRule, positionOf, wordsOf, stateOf, stateWords}
+
+-- ---- the search: the query is exactly its block
+
+unfoldable pub searchCall : List ℕ → List ℕ → ℕ → Out (List ℕ)
+searchCall query file room = on (askOf query) (λ a. searchOf a file room)
+
+-- ---- one value of a column
+
+unfoldable pub stepCall : List ℕ → ℕ → List ℕ → Out Turn
+stepCall column n words = on (fourRule words) (λ _. nextOf 64 column n (positionOf words))
+
+-- it says 1 with a value, 0 at the end
+unfoldable pub gives : Turn → ℕ
+gives (value v p) = 1
+gives end = 0
+
+-- with a value the words are the next position; at the end nothing is put
+unfoldable pub moves : Turn → List ℕ
+moves (value v p) = wordsOf p
+moves end = []
+
+-- ---- the writer, for a buffer of so many bytes
+
+unfoldable pub openCall : List ℕ → ℕ → Out Added
+openCall words room = on (fourRule words) (λ _. openOf room)
+
+unfoldable pub pageCall : List ℕ → ℕ → Handed → Out Added
+pageCall words room i = on (fourRule words) (λ _. pageStepOf (stateOf words) room i)
+
+unfoldable pub closeCall : List ℕ → ℕ → Out Added
+closeCall words room = on (fourRule words) (λ _. closeOf (stateOf words) room)
+
+-- the words of the next state
+unfoldable pub nextWords : Added → List ℕ
+nextWords a = stateWords (a .next)
+
+-- the contract of such a call: it says 0, the words are the next state, and the buffer is as the step leaves it
+pub record Kept (o : Out Added) (words d : List ℕ) (says : ℕ) (next left : List ℕ) : Type 0 where
+  pub told : Told o (λ _. 0) nextWords words says next
+  pub buffer : left ≡ bufferAfter o d

@@ -1,0 +1,42 @@
+-- A position and a writer's state as four words. Words behind the fourth mean nothing. Assumes nothing.
+use Prim.Native.Nat.{ℕ, _-_, _^_}
+use mathlib.Core.Bool.{Bool, not, cond}
+use mathlib.Core.List.{List, [], _∷_}
+use lib.Dec.{leb, eqb}
+use lib.ListN.{length, getD}
+use Rattle.answer.specs.Table as table
+use Rattle.answer.specs.Outcome.{Out}
+use Rattle.answer.specs.Rule.{rule}
+use Rattle.column.specs.declared.Position.{Position}
+use Rattle.reader.specs.Next.{position}
+use Rattle.writer.specs.declared.Writer.{Writer}
+use Rattle.writer.specs.State.{stateWith}
+
+-- 2: fewer than four words
+unfoldable pub fourRule : List ℕ → Out (Unit {0})
+fourRule ws = rule (leb 4 (length ws)) table.room
+
+-- ---- a position: bit place, values given, width, last value
+
+unfoldable pub positionOf : List ℕ → Position
+positionOf ws = position (getD ws 0 0) (getD ws 1 0) (getD ws 2 0) (getD ws 3 0)
+
+unfoldable pub wordsOf : Position → List ℕ
+wordsOf p = p .at ∷ p .given ∷ p .width ∷ p .last ∷ []
+
+-- ---- a writer's state: position, pages, shapes, closed
+
+-- pages and shapes have 32 bits: a word above is taken as the greatest such number, which is over every limit as the word is
+unfoldable pub countOf : ℕ → ℕ
+countOf word = cond (leb word (2 ^ 32 - 1)) word (2 ^ 32 - 1)
+
+-- closed is any word but 0
+unfoldable pub stateOf : List ℕ → Writer
+stateOf ws = stateWith (getD ws 0 0) (countOf (getD ws 1 0)) (countOf (getD ws 2 0)) (not (eqb (getD ws 3 0) 0))
+
+-- and is handed back as 1
+unfoldable pub flagOf : Bool → ℕ
+flagOf closed = cond closed 1 0
+
+unfoldable pub stateWords : Writer → List ℕ
+stateWords st = st .position ∷ st .pages ∷ st .shapes ∷ flagOf (st .closed) ∷ []

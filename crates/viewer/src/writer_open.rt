@@ -1,0 +1,20 @@
+// The file writer opened, as one word.
+ghost use lib.ListN.{length};
+ghost use Rattle.viewer.specs.Calls.{openCall, Kept};
+use crate::state::hand_back;
+use crate::state::state_of;
+use crate::word::number_word;
+use answer::table::ROOM;
+
+// 0, with the first block in the buffer and a state of no pages in the words; or the refusal, which leaves both. Of the state that comes in nothing
+// is used.
+#[no_mangle]
+pub extern "C" fn boundary_open(writer: &mut [u64], buffer: &mut [u8]) -> u64
+    ensures { λ r. ⌜ Kept (openCall (now (writer .entry)) (length (now (buffer .entry)))) (now (writer .entry)) (now (buffer .entry)) r (now (writer .exit)) (now (buffer .exit)) ⌝ }
+{
+    if writer.len() < 4 {
+        return number_word(ROOM);
+    }
+    let st = state_of(writer);
+    hand_back(writer, st.open(buffer))
+}
