@@ -1,9 +1,12 @@
 pub mod RoundTrip
 pub mod LeastSize
 pub mod Accepted
-pub mod Determined
 pub mod Worked
 pub mod Sampled
 pub mod SoundFiles
 pub mod Writings
 pub mod Numbers
+pub mod Fetched
+pub mod FirstDemand
+pub mod SecondDemand
+pub mod ThirdDemand

@@ -1,10 +1,10 @@
 -- "Bad input is refused by one number from the table": each service gives no number but those of its line in document 01's "Order", for any input. Nothing
 -- is assumed.
-use Prim.Native.Nat.{ℕ, zero, suc, _+_}
+use Prim.Native.Nat.{ℕ, zero, suc, _+_, _-_}
 use mathlib.Core.Path.{_≡_, refl, sym, ap, _∙_, subst}
 use mathlib.Core.Bool.{Bool, true, false, cond, _&&_, _||_}
 use mathlib.Core.List.{List, [], _∷_, _++_}
-use lib.Dec.{eqb, leb}
+use lib.Dec.{eqb, leb, ltb}
 use lib.ListN.{length}
 use borrow.Author.Tests.{eqb-true}
 use Rattle.answer.specs.declared.Refusal.{Refusal}
@@ -44,6 +44,9 @@ use Rattle.writer.specs.State.{putAt, openRule, openOf, pagesRule, pageStepOf, 
 use Rattle.file.specs.File.{pagesOf, shapesIn}
 use Rattle.file.specs.Check.{checkOf}
 use Rattle.search.specs.Search.{pageHits, metOf, metIn, hitsOf, searchOf, countOf}
+use Rattle.fetch.specs.Seek.{seekIn, seatOf}
+use Rattle.fetch.specs.Fetch.{shapeAt, shapeOf, shapeIn, Rooms, inRooms, fetchOf}
+use Rattle.fetch.specs.Rows.{rowsAt, rowsIn, rowsOf}
 use Rattle.promises.specs.Numbers as numbers
 use Rattle.promises.specs.Numbers.{oneOf, Gives}
 
@@ -258,6 +261,43 @@ pub search-gives : (a : Ask) (s : List ℕ) (room : ℕ) → Gives numbers.searc
 unfolding searchOf oneOf every
 search-gives a s room =
     on-gives _ _ _ (wider numbers.count numbers.search refl _ (hits-give a s)) (λ l. need-gives _ _ _ _ refl (ok-gives _ _))
+
+-- ---- fetch
+
+seek-gives : (ps : List Page) (k n : ℕ) → Gives numbers.place (seekIn k n ps)
+unfolding seekIn oneOf
+seek-gives [] k n = refused-gives _ _ refl
+seek-gives (p ∷ ps) k n = cond-gives _ (ltb n (p .head .g)) _ _ (ok-gives _ _) (seek-gives ps (suc k) (n - p .head .g))
+
+seat-gives : (s : List ℕ) (n : ℕ) → Gives numbers.place (seatOf s n)
+unfolding seatOf oneOf every
+seat-gives s n = on-gives _ _ _ (wider numbers.frame numbers.place refl _ (frame-gives s)) (λ f. seek-gives (f .pages) 0 n)
+
+nth-gives : (n : ℕ) (l : List Shape) → Gives numbers.fetch (shapeAt n l)
+unfolding shapeAt oneOf
+nth-gives n [] = refused-gives _ _ refl
+nth-gives zero (x ∷ l) = ok-gives _ _
+nth-gives (suc n) (x ∷ l) = nth-gives n l
+
+pub fetch-gives : (s : List ℕ) (n : ℕ) (r : Rooms) → Gives numbers.fetch (fetchOf s n r)
+unfolding fetchOf shapeIn shapeOf inRooms oneOf every
+fetch-gives s n r =
+    on-gives _ _ _
+    (on-gives _ _ _ (wider numbers.place numbers.fetch refl _ (seat-gives s n)) (λ t.
+    on-gives _ _ _ (wider numbers.contents numbers.fetch refl _ (page-gives _ (t .page) _ (contents-give (t .held .head) (t .held .body)))) (nth-gives (t .index))))
+    (λ sh. need-gives _ _ _ _ refl (ok-gives _ _))
+
+each-row-gives : (ps : List Page) (ns : List ℕ) → Gives numbers.place (rowsAt ps ns)
+unfolding rowsAt
+each-row-gives ps [] = ok-gives _ _
+each-row-gives ps (n ∷ ns) = on-gives _ _ _ (seek-gives ps 0 n) (λ t. on-gives _ _ _ (each-row-gives ps ns) (λ rs. ok-gives _ _))
+
+pub rows-give : (s places : List ℕ) (registers types : ℕ) → Gives numbers.rows (rowsOf s places registers types)
+unfolding rowsOf rowsIn oneOf every
+rows-give s places registers types =
+    on-gives _ _ _
+    (on-gives _ _ _ (wider numbers.frame numbers.rows refl _ (frame-gives s)) (λ f. wider numbers.place numbers.rows refl _ (each-row-gives (f .pages) places)))
+    (λ rs. need-gives _ _ _ _ refl (ok-gives _ _))
 
 -- ---- the writer
 

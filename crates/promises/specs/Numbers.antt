@@ -52,6 +52,17 @@ search = 1 ∷ check ++ (2 ∷ [])
 abbrev pub count : List ℕ
 count = 1 ∷ check
 
+-- "Fetch: frame, 17, contents of its page, 2"
+abbrev pub place : List ℕ
+place = frame ++ (17 ∷ [])
+
+abbrev pub fetch : List ℕ
+fetch = place ++ contents ++ (2 ∷ [])
+
+-- rows for a list of places: frame, 17, 2
+abbrev pub rows : List ℕ
+rows = place ++ (2 ∷ [])
+
 -- "Writer: open (2), page (18, 3, 6, 11, 12, 13, 14, 15, 2), close (18, 3, 2)"
 abbrev pub writerOpen : List ℕ
 writerOpen = 2 ∷ []

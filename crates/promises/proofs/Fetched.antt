@@ -1,0 +1,71 @@
+-- What fetch gives: the n-th shape of a file that the full check accepts; never 17 for a place that the search lists, in any file; and every shape as it was
+-- handed to the writer. Nothing is assumed.
+use Prim.Native.Nat.{ℕ, _≤_, _<_}
+use mathlib.Core.Path.{_≡_, refl, sym, ap, _∙_, subst}
+use mathlib.Core.Bool.{true}
+use mathlib.Core.List.{List, _∷_}
+use native.Mathlib.Omega.{arith}
+use lib.Dec.{leb}
+use lib.ListN.{length, drop}
+use Rattle.answer.specs.Table as table
+use Rattle.answer.specs.declared.Refusal.{Refusal}
+use Rattle.answer.specs.Refusal.{because}
+use Rattle.answer.specs.Outcome.{Out, refused, ok}
+use Rattle.answer.proofs.Outcomes.{never, refused-inj, need-ok, on-ok}
+use Rattle.extent.proofs.Tests.{no-both}
+use Rattle.query.specs.declared.ask.Ask.{Ask}
+use Rattle.shape.specs.Outline.{Shape}
+use Rattle.page.specs.Contents.{contentsOf}
+use Rattle.file.specs.File.{shapesIn}
+use Rattle.search.specs.Search.{hitsOf, searchOf}
+use Rattle.search.specs.Listed.{listed}
+use Rattle.search.proofs.Listed.{rising-listed}
+use Rattle.search.proofs.Ordered.{hits-met, hits-ascend}
+use Rattle.fetch.specs.Seek.{Seat, seatOf}
+use Rattle.fetch.specs.Fetch.{shapeOf, shapeIn}
+use Rattle.fetch.proofs.Nth.{nth-some, nth-drop}
+use Rattle.fetch.proofs.Opens.{place-seat, seat-refused, seat-contents}
+use Rattle.fetch.proofs.Fetching.{contents-many, fetch-nth}
+use Rattle.fetch.proofs.Accepted.{seat-within, seat-inside}
+use Rattle.writer.specs.Run.{Call, Held, takenOf, TypedCalls}
+use Rattle.promises.specs.Numbers as numbers
+use Rattle.promises.specs.Numbers.{oneOf}
+use Rattle.promises.specs.Writing.{handedShapes}
+use Rattle.promises.proofs.Numbers.{contents-give}
+use Rattle.promises.proofs.Writings.{opened, ended, closedFile, closed-shapes}
+
+-- the n-th shape of a file
+pub fetch-is : (s : List ℕ) (n : ℕ) (ss : List Shape) (x : Shape) (rest : List Shape) → shapesIn s ≡ ok ss → drop n ss ≡ x ∷ rest → shapeIn s n ≡ ok x
+fetch-is s n ss x rest e d = fetch-nth s n ss e ∙ nth-drop n ss rest x d
+
+-- a place that is listed has a seat
+pub listed-seat : (a : Ask) (s : List ℕ) (room : ℕ) (l : List ℕ) (p : ℕ) → searchOf a s room ≡ ok l → listed p l ≡ true → (t : Seat) × (seatOf s p ≡ ok t)
+unfolding searchOf
+listed-seat a s room l p e h =
+    let x = on-ok (hitsOf a s) _ l e in
+    let y = need-ok (leb (length (x .0)) room) (because table.room) (ok (x .0)) l (x .2) in
+    let hits : hitsOf a s ≡ ok l = x .1 ∙ y .1 in
+    let m = hits-met a s l hits in
+    seat-within s p (m .0) (m .1) (rising-listed 0 l p (hits-ascend a s l hits) h .1)
+
+-- so fetch never gives 17 for it
+pub listed-never-17 : (a : Ask) (s : List ℕ) (room : ℕ) (l : List ℕ) (p : ℕ) (w : Refusal) → searchOf a s room ≡ ok l → listed p l ≡ true
+    → shapeIn s p ≡ refused w → w .number ≡ table.place → ⊥
+unfolding oneOf
+listed-never-17 a s room l p w e h r q =
+    let k = listed-seat a s room l p e h in
+    let t : Seat = k .0 in
+    go t (seat-inside s p t (k .1)) (contentsOf (t .held .head) (t .held .body)) refl (sym (place-seat s p t (k .1)) ∙ r)
+  where
+    go : (t : Seat) → t .index < t .held .head .g → (o : Out (List Shape)) → contentsOf (t .held .head) (t .held .body) ≡ o → shapeOf t ≡ refused w → ⊥
+    go t i (refused v) c f =
+        let n : v .number ≡ 17 = ap (λ (x : Refusal). x .number) (refused-inj (sym (seat-refused t v c) ∙ f)) ∙ q in
+        no-both refl (subst (λ (x : ℕ). oneOf x numbers.contents ≡ true) n (contents-give (t .held .head) (t .held .body) .number v c))
+    go t i (ok here) c f =
+        let x = nth-some (t .index) here (omega (arith, i, contents-many (t .held .head) (t .held .body) here c)) in
+        never (sym f ∙ seat-contents t here c ∙ x .1)
+
+-- every shape as it was handed in
+pub written-fetched : (h : Held) (cs : List Call) (l : 8 ≤ length (h .buffer)) (t : TypedCalls cs) (n : ℕ) (x : Shape) (rest : List Shape)
+    → ended h cs l t .state .closed ≡ true → drop n (handedShapes (takenOf (opened h cs l t) cs)) ≡ x ∷ rest → shapeIn (closedFile h cs l t) n ≡ ok x
+written-fetched h cs l t n x rest c d = fetch-is (closedFile h cs l t) n (handedShapes (takenOf (opened h cs l t) cs)) x rest (closed-shapes h cs l t c) d
