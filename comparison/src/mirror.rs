@@ -1,0 +1,167 @@
+//! The ten functions of boundary.h over second/ itself, so that the
+//! comparison can be tried against an implementation known to be good, and
+//! against one that breaks one thing at a time (broken.rs).
+//!
+//! Every pointer comes from the comparison's guarded memory.
+
+use crate::broken;
+use crate::face;
+use second::writer::PageInput;
+use std::slice::{from_raw_parts as lent, from_raw_parts_mut as room};
+
+/// # Safety
+/// As boundary.h says: each pointer is good for its number of elements.
+#[no_mangle]
+pub unsafe extern "C" fn boundary_check(file: *const u8, len: usize) -> u64 {
+    broken::check(file as *mut u8, len).unwrap_or_else(|| face::check(lent(file, len)))
+}
+
+/// # Safety
+/// As above.
+#[no_mangle]
+pub unsafe extern "C" fn boundary_count(query: *const u8, query_len: usize, file: *const u8, len: usize) -> u64 {
+    let (query, file) = (lent(query, query_len), lent(file, len));
+    broken::count(query, file).unwrap_or_else(|| face::count(query, file))
+}
+
+/// # Safety
+/// As above.
+#[no_mangle]
+pub unsafe extern "C" fn boundary_search(
+    query: *const u8,
+    query_len: usize,
+    file: *const u8,
+    len: usize,
+    places: *mut u32,
+    room_len: usize,
+) -> u64 {
+    let (query, file, places) = (lent(query, query_len), lent(file, len), room(places, room_len));
+    let word = face::search(query, file, places);
+    broken::search(word, places)
+}
+
+/// # Safety
+/// As above.
+#[no_mangle]
+pub unsafe extern "C" fn boundary_fetch(
+    file: *const u8,
+    len: usize,
+    place: u64,
+    about: *mut u64,
+    about_room: usize,
+    lens: *mut u16,
+    lens_room: usize,
+    xs: *mut u64,
+    xs_room: usize,
+    ys: *mut u64,
+    ys_room: usize,
+) -> u64 {
+    let place = broken::place(place);
+    let about = room(about, about_room);
+    let word = face::fetch(
+        lent(file, len),
+        place,
+        about,
+        room(lens, lens_room),
+        room(xs, xs_room),
+        room(ys, ys_room),
+    );
+    broken::fetch(word, about)
+}
+
+/// # Safety
+/// As above.
+#[no_mangle]
+pub unsafe extern "C" fn boundary_column_write(values: *const u64, n: usize, to: *mut u8, room_len: usize) -> u64 {
+    let values = lent(values, n);
+    if let Some(word) = broken::column_write(values, room(to, room_len)) {
+        return word;
+    }
+    let word = face::column_write(values, room(to, room_len));
+    broken::after_column_write(word, to, room_len);
+    word
+}
+
+/// # Safety
+/// As above.
+#[no_mangle]
+pub unsafe extern "C" fn boundary_column_read(
+    column: *const u8,
+    len: usize,
+    n: usize,
+    to: *mut u64,
+    room_len: usize,
+) -> u64 {
+    let (column, values) = (lent(column, len), room(to, room_len));
+    let word = face::column_read(column, n, values);
+    broken::column_read(word, column, n, values)
+}
+
+/// # Safety
+/// As above.
+#[no_mangle]
+pub unsafe extern "C" fn boundary_column_step(
+    column: *const u8,
+    len: usize,
+    n: usize,
+    position: *mut u64,
+    position_len: usize,
+) -> u64 {
+    let position = room(position, position_len);
+    let word = face::column_step(lent(column, len), n, position);
+    broken::column_step(word, position)
+}
+
+/// # Safety
+/// As above.
+#[no_mangle]
+pub unsafe extern "C" fn boundary_open(state: *mut u64, state_len: usize, buffer: *mut u8, len: usize) -> u64 {
+    let state = room(state, state_len);
+    let word = face::open(state, room(buffer, len));
+    broken::open(word, state)
+}
+
+/// # Safety
+/// As above.
+#[no_mangle]
+pub unsafe extern "C" fn boundary_page(
+    state: *mut u64,
+    state_len: usize,
+    buffer: *mut u8,
+    len: usize,
+    registers: *const u32,
+    registers_len: usize,
+    types: *const u8,
+    types_len: usize,
+    counts: *const u16,
+    counts_len: usize,
+    lens: *const u16,
+    lens_len: usize,
+    xs: *const u64,
+    xs_len: usize,
+    ys: *const u64,
+    ys_len: usize,
+) -> u64 {
+    let input = PageInput {
+        registers: lent(registers, registers_len),
+        types: lent(types, types_len),
+        part_counts: lent(counts, counts_len),
+        part_lengths: lent(lens, lens_len),
+        xs: lent(xs, xs_len),
+        ys: lent(ys, ys_len),
+    };
+    let (state, buffer) = (room(state, state_len), room(buffer, len));
+    broken::before_page(state);
+    let before = state.first().copied().unwrap_or(0) as usize;
+    let word = face::page(state, buffer, &input);
+    broken::page(word, state, buffer, before, &input)
+}
+
+/// # Safety
+/// As above.
+#[no_mangle]
+pub unsafe extern "C" fn boundary_close(state: *mut u64, state_len: usize, buffer: *mut u8, len: usize) -> u64 {
+    let state = room(state, state_len);
+    let word = face::close(state, room(buffer, len));
+    broken::close(word, state)
+}
