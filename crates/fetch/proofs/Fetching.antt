@@ -2,12 +2,12 @@
 use mathlib.Core.Path.{_≡_, refl, sym, ap, _∙_}
 use mathlib.Core.Bool.{Bool, true, false}
 use mathlib.Core.List.{List, [], _∷_, _++_}
-use Prim.Native.Nat.{ℕ, suc, _-_, _≤_, _<_}
+use Prim.Native.Nat.{ℕ, suc, _-_}
 use native.Mathlib.Omega.{arith}
 use borrow.Author.Tests.{ltb-true, ltb-false}
 use lib.Dec.{ltb}
 use lib.ListN.{length}
-use Rattle.answer.specs.Outcome.{Out, refused, ok, on, inPage}
+use Rattle.answer.specs.Outcome.{Out, ok, on, inPage}
 use Rattle.answer.proofs.Outcomes.{ok-inj, on-ok}
 use Rattle.shape.specs.Outline.{Shape}
 use Rattle.frame.specs.declared.head.Head.{Head}

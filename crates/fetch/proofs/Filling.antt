@@ -1,6 +1,5 @@
 -- The three rooms: what is left in them by a refusal and by a shape, and one law for each test of the room. Assumes nothing.
-use mathlib.Core.Path.{_≡_, refl, sym, ap, _∙_}
-use mathlib.Core.Bool.{true, false, _&&_}
+use mathlib.Core.Path.{_≡_}
 use mathlib.Core.List.{List, _++_}
 use Prim.Native.Nat.{ℕ, _-_, _≤_, _<_}
 use native.Mathlib.Omega.{arith}
@@ -10,12 +9,11 @@ use lib.Seq.{length-take-le}
 use Rattle.answer.specs.Table as table
 use Rattle.answer.specs.Refusal.{because}
 use Rattle.answer.specs.declared.Refusal.{Refusal}
-use Rattle.answer.specs.Outcome.{Out, refused, ok, need, on, filled}
+use Rattle.answer.specs.Outcome.{Out, refused, ok, on, filled}
 use Rattle.answer.proofs.Outcomes.{met, unmet}
-use Rattle.shape.specs.Outline.{Outline, Shape}
+use Rattle.shape.specs.Outline.{Shape}
 use Rattle.fetch.specs.declared.row.Row.{Row}
 use Rattle.fetch.specs.declared.span.Span.{Span}
-use Rattle.fetch.specs.declared.fetch.Fetched.{Fetched}
 use Rattle.fetch.specs.declared.fetch.Fetched.the-variants as fetched
 use Rattle.fetch.specs.Span.{shapeFrom}
 use Rattle.fetch.specs.Fetch.{Rooms, roomsOf, roomy, inRooms, answerOf, listOf, Fetches}

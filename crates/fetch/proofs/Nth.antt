@@ -1,12 +1,12 @@
 -- Laws of the n-th of some shapes. Assumes nothing.
-use mathlib.Core.Path.{_≡_, refl, sym, ap, _∙_}
+use mathlib.Core.Path.{_≡_, refl, ap, _∙_}
 use mathlib.Core.List.{List, [], _∷_, _++_}
 use Prim.Native.Nat.{ℕ, zero, suc, _-_, _≤_, _<_}
 use native.Mathlib.Omega.{arith}
 use lib.ListN.{length, drop}
 use Rattle.answer.specs.Table as table
 use Rattle.answer.specs.Refusal.{because}
-use Rattle.answer.specs.Outcome.{Out, refused, ok}
+use Rattle.answer.specs.Outcome.{refused, ok}
 use Rattle.shape.specs.Outline.{Shape}
 use Rattle.fetch.specs.Fetch.{shapeAt}
 

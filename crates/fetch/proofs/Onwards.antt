@@ -4,17 +4,15 @@ use mathlib.Core.List.{List, [], _∷_}
 use Prim.Native.Nat.{ℕ, suc, _+_, _-_, _≤_, _<_}
 use native.Mathlib.Numerals.{add-one}
 use native.Mathlib.Omega.{arith}
-use lib.ListN.{length}
 use Rattle.answer.specs.Table as table
 use Rattle.answer.specs.Refusal.{because}
 use Rattle.answer.specs.declared.Refusal.{Refusal}
-use Rattle.answer.specs.Outcome.{Out, refused, ok, on}
+use Rattle.answer.specs.Outcome.{refused, ok, on}
 use Rattle.frame.specs.declared.cursor.Cursor.{Cursor}
 use Rattle.frame.specs.declared.cursor.PageAt.{PageAt}
 use Rattle.frame.specs.declared.cursor.Step.{Step}
 use Rattle.frame.specs.declared.cursor.Step.the-variants as step
-use Rattle.frame.specs.Head.{headOf}
-use Rattle.frame.specs.Step.{part, page, end, firstOf, stepOf}
+use Rattle.frame.specs.Step.{page, end, firstOf, stepOf}
 use Rattle.frame.specs.Frame.{Page, Frame, pageOf, frameOf}
 use Rattle.frame.specs.Said.{saidStep}
 use Rattle.frame.proofs.Steps.{page-said, end-said, refusal-said}
@@ -25,7 +23,7 @@ use Rattle.page.proofs.Orders.{on-refused, on-value}
 use Rattle.fetch.specs.declared.seek.SeatAt.{SeatAt}
 use Rattle.fetch.specs.declared.seek.Sought.{Sought}
 use Rattle.fetch.specs.declared.seek.Sought.the-variants.{At, Refused}
-use Rattle.fetch.specs.Seek.{Seat, seekIn, seatOf, seatAt, saidSought}
+use Rattle.fetch.specs.Seek.{seekIn, seatOf, seatAt, saidSought}
 use Rattle.fetch.specs.Onward.{Onward, Seated, Seeks}
 use Rattle.fetch.proofs.Seeking.{seek-none, seek-here, seek-on}
 

@@ -12,7 +12,7 @@ use Rattle.answer.specs.Table as table
 use Rattle.answer.specs.Refusal.{because}
 use Rattle.answer.specs.declared.Refusal.{Refusal}
 use Rattle.answer.specs.declared.Filled.the-variants as filled
-use Rattle.answer.specs.Outcome.{Out, refused, ok, need, on, Fills}
+use Rattle.answer.specs.Outcome.{Out, refused, ok, on, Fills}
 use Rattle.answer.proofs.Outcomes.{never, ok-inj, met, unmet, on-ok, fills-refused, fills-ok}
 use Rattle.le.proofs.Copying.{copy-more}
 use Rattle.types.specs.Every.{allOf}
@@ -27,7 +27,7 @@ use Rattle.fetch.specs.declared.row.Row.{Row}
 use Rattle.fetch.specs.declared.seek.SeatAt.{SeatAt}
 use Rattle.fetch.specs.declared.seek.Sought.{Sought}
 use Rattle.fetch.specs.declared.seek.Sought.the-variants.{At, Refused}
-use Rattle.fetch.specs.Seek.{Seat, seekIn, seatOf, seatAt}
+use Rattle.fetch.specs.Seek.{Seat, seekIn, seatOf}
 use Rattle.fetch.specs.Onward.{Onward, Seeks}
 use Rattle.fetch.specs.Row.{rowOf}
 use Rattle.fetch.specs.Rows.{seatRow, rowsAt, rowsIn, rowsOf, registersFrom, typesFrom}

@@ -1,21 +1,19 @@
 -- Where a shape's row stands in the body of its page. Assumes nothing.
-use mathlib.Core.Path.{_≡_, refl, sym, ap, ap₂, _∙_}
+use mathlib.Core.Path.{_≡_, sym, _∙_}
 use mathlib.Core.List.{List}
 use Prim.Native.Nat.{ℕ, _+_, _*_, _≤_, _<_}
 use native.Mathlib.Omega.{arith}
-use lib.ListN.{length, getD, take, drop}
+use lib.ListN.{length, getD, drop}
 use lib.Seq.{getD-take, getD-drop}
 use Rattle.answer.specs.Outcome.{ok}
 use Rattle.le.specs.Number.{numberAt}
 use Rattle.le.proofs.Runs.{numbers-at}
 use Rattle.frame.specs.declared.head.Head.{Head}
-use Rattle.frame.specs.declared.layout.Layout.{Layout}
 use Rattle.frame.specs.Layout.{each, layoutOf}
 use Rattle.frame.specs.Head.{headOf}
 use Rattle.frame.proofs.Heads.{head-is}
 use Rattle.page.specs.Contents.{registersOf, typesOf}
 use Rattle.page.proofs.Loading.{head-stands}
-use Rattle.fetch.specs.declared.row.Row.{Row}
 use Rattle.fetch.specs.Row.{rowOf}
 
 -- the types stand behind the registers

@@ -1,6 +1,6 @@
 -- A shape's row in the tables of its page: its register and its type, where the page's layout says. The page's contents are not judged. Assumes
 -- nothing.
-use Prim.Native.Nat.{ℕ, suc}
+use Prim.Native.Nat.{ℕ}
 use mathlib.Core.List.{List}
 use lib.ListN.{getD}
 use Rattle.frame.specs.declared.head.Head.{Head}

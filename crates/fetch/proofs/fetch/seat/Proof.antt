@@ -1,6 +1,4 @@
 -- `fetch::fetch::seat` judges the frame, after which the first block is there, and seeks the place from the first page. Assumes nothing.
-use Prim.Native.Nat.{_≤_}
-use mathlib.Core.Path.{sym}
 use native.Mathlib.Omega.{arith}
 use Rattle.frame.proofs.Steps.{first-said, first-refusal-said}
 use Rattle.frame.proofs.Walks.{sound-said, frame-refusal-said}

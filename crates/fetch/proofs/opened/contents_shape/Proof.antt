@@ -1,9 +1,5 @@
 -- `fetch::opened::contents_shape` loads a page and cuts the shape from its lists; what the load refuses is refused with the page's number. Assumes
 -- nothing.
-use mathlib.Core.Path.{_≡_, sym, ap, _∙_}
-use Prim.Native.Nat.{ℕ, _≤_}
-use native.Mathlib.Omega.{arith}
-use lib.ListN.{length}
 use Rattle.page.proofs.Loading.{head-stands}
 use Rattle.fetch.proofs.Filling.{fetches-refused}
 use Rattle.fetch.proofs.Spans.{span-parts, span-vertices}

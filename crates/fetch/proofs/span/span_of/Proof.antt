@@ -1,8 +1,8 @@
 -- `fetch::span::span_of` sums up the parts and the vertices before a shape, and with its own. Assumes nothing.
-use mathlib.Core.Path.{_≡_, refl, sym}
-use Prim.Native.Nat.{ℕ, suc, _+_, _≤_, _<_}
+use mathlib.Core.Path.{refl, sym}
+use Prim.Native.Nat.{suc, _+_, _≤_}
 use native.Mathlib.Omega.{arith}
-use lib.ListN.{length, getD, take}
+use lib.ListN.{length, getD}
 use lib.Seq.{length-take-le}
 use Rattle.types.specs.Parts.{total}
 use Rattle.types.proofs.Sums.{total-take-le}
