@@ -11,8 +11,8 @@
  * Threads. There is no global state. Threads may call at the same time, as long as none writes to what another lends meanwhile.
  *
  * Stack. As measured on x86-64 by tests/cface/stack.c (measured on some inputs, not proved): the search takes about 70 KiB of its thread's stack, the
- * full check and the count about 38 KiB, the column read about 20 KiB, each other call less than 2 KiB; the fetch is still to be measured. BOUNDARY_STACK
- * is more than the greatest of these.
+ * fetch about 40 KiB, the full check and the count about 38 KiB, the column read about 17 KiB, each other call less than 2 KiB. BOUNDARY_STACK is more
+ * than the greatest of these.
  *
  * The answer of every call is one word. Bits 32 to 39 are the number of a refusal, 0 if there is none. Then bits 0 to 31 are what the call says; else
  * they are the page, from 0, that the refusal concerns, and 0 if it concerns none. Bits 40 to 63 are 0. A refused call has changed no byte of what
@@ -94,7 +94,7 @@ uint64_t boundary_search(const uint8_t *query, size_t query_len, const uint8_t *
 
 /* The shape at a place. Fills the start of the four rooms: `about` with four words (register, type, number of parts, number of vertices), `lens` with
  * the part lengths, `xs` and `ys` with the patterns of the vertices. Says the number of vertices. Order: frame, 17, contents of its page, 2 (any room
- * too small). */
+ * too small, `about` with fewer than four words too). */
 uint64_t boundary_fetch(const uint8_t *file, size_t len, uint64_t place, uint64_t *about, size_t about_room, uint16_t *lens, size_t lens_room,
                         uint64_t *xs, size_t xs_room, uint64_t *ys, size_t ys_room);
 

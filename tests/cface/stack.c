@@ -41,6 +41,14 @@ static void do_search(void)
     answer = boundary_search(everything, sizeof everything, sample, len, places, 8);
 }
 
+/* The first shape of the sample file: a Polygon of one ring of five vertices. */
+static void do_fetch(void)
+{
+    static uint16_t lens[8];
+    static uint64_t xs[8], ys[8];
+    answer = boundary_fetch(sample, len, 0, words, BOUNDARY_WORDS, lens, 8, xs, 8, ys, 8);
+}
+
 static void do_column_write(void)
 {
     answer = boundary_column_write(values, BOUNDARY_MOST_VALUES, column, sizeof column);
@@ -129,6 +137,7 @@ int main(int argc, char **argv)
     all = within("check", do_check, 4);
     all &= within("count", do_count, 4);
     all &= within("search", do_search, 4);
+    all &= within("fetch", do_fetch, 5);
     all &= within("column_write", do_column_write, sizeof column);
     all &= within("column_read", do_column_read, BOUNDARY_MOST_VALUES);
     all &= within("column_step", do_column_step, 0);

@@ -4,5 +4,7 @@ pub mod Telling
 pub mod Stepping
 pub mod Given
 pub mod Keeping
+pub mod Finding
 pub mod Determined
+pub mod Sizes
 pub mod Fitting

@@ -1,3 +1,4 @@
 pub mod Word
 pub mod Four
 pub mod Calls
+pub mod Fetch

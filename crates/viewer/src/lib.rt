@@ -6,6 +6,7 @@ pub mod column_write;
 pub mod count;
 mod four;
 pub mod hits;
+pub mod one_shape;
 mod position;
 mod state;
 mod word;
