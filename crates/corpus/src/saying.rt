@@ -1,0 +1,23 @@
+// The start and the end of a line. The end answers whether another case may follow: that it was written, and that the case was well formed.
+use line::number;
+use line::say;
+
+// The service, and the answer taken apart: the refusal's number, then what the call says, or the page.
+pub fn answered(service: u64, word: u64) {
+    number(service);
+    say(b" ");
+    number(word / 4294967296 % 256);
+    say(b" ");
+    number(word % 4294967296);
+}
+
+// The end of a line.
+pub fn ended() -> bool {
+    say(b"\n")
+}
+
+// The last line of a run that ends early.
+pub fn malformed() -> bool {
+    say(b"malformed\n");
+    false
+}
