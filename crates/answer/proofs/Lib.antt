@@ -1,3 +1,4 @@
 pub mod Outcomes
+pub mod Both
 pub mod Determined
 pub mod Rules

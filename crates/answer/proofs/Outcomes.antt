@@ -8,7 +8,8 @@ use lib.ListN.{length, drop}
 use Rattle.answer.specs.declared.Refusal.{Refusal}
 use Rattle.answer.specs.declared.Filled.{Filled}
 use Rattle.answer.specs.declared.Filled.the-variants.{Start, Refused}
-use Rattle.answer.specs.Outcome.{Out, refused, ok, need, on, filled, answered, Fills}
+use Rattle.answer.specs.Refusal.{onPage}
+use Rattle.answer.specs.Outcome.{Out, refused, ok, need, on, inPage, filled, answered, Fills}
 
 -- no refusal is a value
 pub never : {A : Type 0} {w : Refusal} {a : A} → refused w ≡ ok a → ⊥
@@ -39,6 +40,22 @@ pub on-ok : {A B : Type 0} (x : Out A) (f : A → Out B) (b : B) → on x f ≡ 
 unfolding on
 on-ok (refused w) f b e = absurd (never e)
 on-ok (ok a) f b e = (a, refl, e)
+
+-- ---- an outcome in a page
+
+pub in-page-refused : {A : Type 0} {o : Out A} (k : ℕ) (w : Refusal) → o ≡ refused w → inPage k o ≡ refused (onPage k w)
+unfolding inPage
+in-page-refused k w e = rw e
+
+pub in-page-value : {A : Type 0} {o : Out A} (k : ℕ) (a : A) → o ≡ ok a → inPage k o ≡ ok a
+unfolding inPage
+in-page-value k a e = rw e
+
+-- and back
+pub in-page-ok : {A : Type 0} (k : ℕ) (o : Out A) (a : A) → inPage k o ≡ ok a → o ≡ ok a
+unfolding inPage
+in-page-ok k (refused w) a e = absurd (never e)
+in-page-ok k (ok b) a e = e
 
 -- ---- a call that fills a room, by its outcome
 

@@ -2,7 +2,7 @@
 use mathlib.Core.Path.{_≡_, refl, sym, ap, ap₂, _∙_, subst}
 use mathlib.Core.List.{List, [], _∷_, _++_}
 use Prim.Native.Nat.{ℕ, zero, suc, _+_, _-_, _*_, _/_, _%_, _^_, _≤_, _<_, zero-le, suc-le-suc}
-use native.Mathlib.Nat.{add-zero, zero-add, add-assoc, zero-mul, mod-one, mul-one, mod-eq-of-lt}
+use native.Mathlib.Nat.{le-of-eq, add-zero, zero-add, add-assoc, zero-mul, mod-one, mul-one, mod-eq-of-lt}
 use native.Mathlib.Numerals.{add-one}
 use native.Mathlib.Omega.{arith}
 use lib.Dec.{leb}
@@ -143,11 +143,7 @@ put-bytes s fs pad hb hn hf hp e l =
 
 -- no values: a part of no bytes stays
 pub put-none : (P n : ℕ) (vs s : List ℕ) → length vs ≡ 0 → length s ≡ length (encodeAt P n vs) → s ≡ encodeAt P n vs
-put-none P n vs s h l = empty s (l ∙ ap length (encode-none P n vs h)) ∙ sym (encode-none P n vs h)
-  where
-    empty : (s : List ℕ) → length s ≡ 0 → s ≡ []
-    empty [] e = refl
-    empty (b ∷ s) e = absurd (omega arith)
+put-none P n vs s h l = let e = encode-none P n vs h in drop-of-length-le s {i = 0} (le-of-eq (l ∙ ap length e)) ∙ sym e
 
 -- some values: the width, the first pattern and the entries one after another, and then zero bits
 module _ (P n : ℕ) (vs s : List ℕ) (h : 0 < length vs) (l : length s ≡ length (encodeAt P n vs)) where

@@ -6,6 +6,10 @@ use lib.ListN.{length, take, drop}
 use Rattle.entry.specs.Entry.{after, values}
 use Rattle.column.specs.declared.Position.{Position}
 
+-- a position, by its place, how many values were given, the width and the last value
+abbrev pub position : ℕ → ℕ → ℕ → ℕ → Position
+position at given width last = record { at = at; given = given; width = width; last = last }
+
 -- the values that are to come from a position on, of n in all, and the place where their entries end; b is the number of the bytes
 abbrev pub toCome : ℕ → ℕ → ℕ → Position → List ℕ
 toCome P b n p = values P b (p .width) (n - p .given) (p .at) (p .last)

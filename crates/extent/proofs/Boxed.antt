@@ -6,9 +6,9 @@ use mathlib.Core.List.{List, [], _∷_}
 use Prim.Native.Nat.{ℕ, _+_, _≤_, _<_}
 use native.Mathlib.Omega.{arith}
 use lib.ListN.{length, getD, take, drop, length-take, length-drop}
+use Rattle.answer.proofs.Both.{both}
 use Rattle.extent.specs.Rank.{finite, allFinite, atMost}
 use Rattle.extent.specs.Boxes.{Bounds, FiniteBox, inOrder, goodForm, Holds, boxOf}
-use Rattle.extent.proofs.Tests.{both}
 use Rattle.extent.proofs.Ranks.{at-most-trans}
 use Rattle.extent.proofs.Finite.{all-finite-at, four-finite}
 use Rattle.extent.proofs.Firsts.{Met, AtMost, Below, AtLeast, Above, least-met, greatest-met, least-unique, greatest-unique, met-part}

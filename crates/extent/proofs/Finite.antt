@@ -8,9 +8,10 @@ use native.Mathlib.Numerals.{add-one}
 use native.Mathlib.Omega.{arith}
 use lib.ListN.{length, getD, take, drop, drop-of-length-le}
 use lib.Seq.{drop-cons}
+use Rattle.answer.proofs.Both.{both, both-l, both-r}
 use Rattle.extent.specs.Rank.{finite, allFinite, below}
 use Rattle.extent.specs.Boxes.{Bounds, FiniteBox, fourFinite, lesser, greater, withVertex}
-use Rattle.extent.proofs.Tests.{both, both-l, both-r, all-four, four-all}
+use Rattle.extent.proofs.Tests.{all-four, four-all}
 
 -- ---- lists
 

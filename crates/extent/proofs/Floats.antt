@@ -8,10 +8,10 @@ use borrow.Author.Tests.{le-leb, lt-leb}
 use lib.Dec.{leb, ltb}
 use lib.Ieee.{binary64, ofFields, ofBits}
 use lib.Signed.{leZ}
+use Rattle.answer.proofs.Both.{both}
 use Rattle.extent.specs.Rank.{signed, rank, finite, atMost}
 use Rattle.extent.specs.Boxes.{Bounds, FiniteBox, bitsOf, patterns, inOrder, goodForm}
 use Rattle.extent.specs.Forms.{floatsOf}
-use Rattle.extent.proofs.Tests.{both}
 use Rattle.extent.proofs.Patterns.{bits-back}
 use Rattle.extent.proofs.Finite.{four-finite}
 use Rattle.extent.proofs.Forms.{good-finite, order-good}

@@ -6,12 +6,12 @@ use native.Mathlib.Omega.{arith}
 use lib.Dec.{T}
 use lib.Ieee.{binary64, fits}
 use lib.Ieee.Bits.{ofBits-toBits}
+use Rattle.answer.proofs.Both.{both, both-l, both-r}
 use Rattle.extent.specs.Rank.{finite}
 use Rattle.extent.specs.Boxes.{Bounds, FiniteBox, patterns, fourFinite, inOrder, goodForm, spotOf}
 use Rattle.extent.specs.Forms.{floatsOf, formOf}
 use Rattle.extent.specs.declared.boxes.Box.{Box}
 use Rattle.extent.specs.declared.boxes.Form.the-variants.{Good, Bad}
-use Rattle.extent.proofs.Tests.{both, both-l, both-r}
 use Rattle.extent.proofs.Ranks.{at-most-refl}
 use Rattle.extent.proofs.Patterns.{bits-back}
 use Rattle.extent.proofs.Finite.{finite-box, four-finite}
@@ -52,21 +52,22 @@ form-not-finite p f = simp f
 
 -- ---- what an answer says
 
+-- whatever the test is that a good form passes
+pub tested-good : (t : Bool) (p : Bounds) (b : Box) → cond t (Good (floatsOf p)) Bad ≡ Good b → (t ≡ true) × (b ≡ floatsOf p)
+tested-good true p b e = (refl, cc)
+tested-good false p b e = let z : _≡_ {A = ℕ} 0 1 = cc in absurd (omega arith)
+
+pub tested-bad : (t : Bool) (p : Bounds) → cond t (Good (floatsOf p)) Bad ≡ Bad → t ≡ false
+tested-bad true p e = let z : _≡_ {A = ℕ} 0 1 = cc in absurd (omega arith)
+tested-bad false p e = refl
+
 pub form-good : (p : Bounds) (b : Box) → formOf p ≡ Good b → (goodForm p ≡ true) × (b ≡ floatsOf p)
 unfolding formOf
-form-good p b = go (goodForm p)
-  where
-    go : (t : Bool) → cond t (Good (floatsOf p)) Bad ≡ Good b → (t ≡ true) × (b ≡ floatsOf p)
-    go true e = (refl, cc)
-    go false e = let z : _≡_ {A = ℕ} 0 1 = cc in absurd (omega arith)
+form-good p = tested-good (goodForm p) p
 
 pub form-bad : (p : Bounds) → formOf p ≡ Bad → goodForm p ≡ false
 unfolding formOf
-form-bad p = go (goodForm p)
-  where
-    go : (t : Bool) → cond t (Good (floatsOf p)) Bad ≡ Bad → t ≡ false
-    go true e = let z : _≡_ {A = ℕ} 0 1 = cc in absurd (omega arith)
-    go false e = refl
+form-bad p = tested-bad (goodForm p) p
 
 -- ---- patterns and floats
 

@@ -4,9 +4,10 @@ use mathlib.Core.Bool.{Bool, true, false, cond}
 use mathlib.Core.List.{List}
 use Prim.Native.Nat.{ℕ, _+_, _^_, _≤_, _<_}
 use lib.ListN.{length, take, drop}
+use Rattle.answer.proofs.Both.{not-true, no-both, both-l, both-r}
 use Rattle.extent.specs.Rank.{finite, atMost, below}
 use Rattle.extent.specs.Boxes.{Bounds, inOrder, goodForm, meets, Holds, Shares, greater, boxOf}
-use Rattle.extent.proofs.Tests.{not-true, no-both, same-test, T-true, true-T, both-l, both-r, all-four, four-all}
+use Rattle.extent.proofs.Tests.{same-test, T-true, true-T, all-four, four-all}
 use Rattle.extent.proofs.Ranks.{at-most-refl, at-most-trans, below-at-most, not-below}
 use Rattle.extent.proofs.Finite.{IsFinite, greater-has}
 use Rattle.extent.proofs.Forms.{Words, good-finite, good-order}

@@ -7,8 +7,8 @@ use native.Mathlib.Omega.{arith}
 use borrow.Author.Tests.{eqb-true, eq-eqb}
 use lib.Dec.{T}
 use lib.IntN.{ℤ, pos, negsuc}
+use Rattle.answer.proofs.Both.{not-true}
 use Rattle.extent.specs.Rank.{rank, eqZ, atMost, below, sameValue}
-use Rattle.extent.proofs.Tests.{not-true}
 use Rattle.extent.proofs.Signs.{le-not-above}
 use Rattle.extent.proofs.Keys.{key, at-most-le, le-at-most, below-lt, lt-below, not-below-le, same-eq, eq-same}
 

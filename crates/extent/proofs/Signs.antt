@@ -8,6 +8,7 @@ use lib.Dec.{ltb, eqb, lt→ltb, eqb→eq, leb·suc-zero, leb·suc-suc, eqb·zer
 use lib.IntN.{ℤ, pos, negsuc}
 use lib.Ieee.{below, level}
 use lib.Signed.{ltZ, leZ}
+use Rattle.answer.proofs.Both.{and-false}
 use Rattle.extent.specs.Rank.{signed, eqZ}
 use Rattle.extent.proofs.Tests.{same-test, eq→eqb, lt-or-eq, le-not-lt}
 
@@ -26,10 +27,6 @@ and-true : (b : Bool) → (b && true) ≡ b
 and-true true = refl
 and-true false = refl
 
-and-false : (b : Bool) → (b && false) ≡ false
-and-false true = refl
-and-false false = refl
-
 and-same : (b : Bool) → (b && b) ≡ b
 and-same true = refl
 and-same false = refl
@@ -38,9 +35,9 @@ pub level-signed : (s t : Bool) (n m : ℕ) → level s n t m ≡ eqZ (signed s 
 level-signed false false n m = and-true (eqb n m)
 level-signed false true n zero = and-same (eqb n 0)
 level-signed false true zero (suc m) = ap (λ (b : Bool). b && true) (eqb·zero-suc m)
-level-signed false true (suc n) (suc m) = ap (λ (b : Bool). eqb (suc n) (suc m) && b) (eqb·suc-zero n) ∙ and-false (eqb (suc n) (suc m))
+level-signed false true (suc n) (suc m) = ap (λ (b : Bool). eqb (suc n) (suc m) && b) (eqb·suc-zero n) ∙ and-false (eqb (suc n) (suc m)) false refl
 level-signed true false zero m = and-true (eqb 0 m)
-level-signed true false (suc n) m = ap (λ (b : Bool). eqb (suc n) m && b) (eqb·suc-zero n) ∙ and-false (eqb (suc n) m)
+level-signed true false (suc n) m = ap (λ (b : Bool). eqb (suc n) m && b) (eqb·suc-zero n) ∙ and-false (eqb (suc n) m) false refl
 level-signed true true zero zero = refl
 level-signed true true zero (suc m) = ap (λ (b : Bool). b && true) (eqb·zero-suc m)
 level-signed true true (suc n) zero = ap (λ (b : Bool). b && true) (eqb·suc-zero n)

@@ -1,11 +1,12 @@
 -- Tests of numbers and of truth values that the other laws use. Assumes nothing.
-use mathlib.Core.Path.{_≡_, refl, sym, _∙_, subst}
+use mathlib.Core.Path.{_≡_, refl, sym, subst}
 use mathlib.Core.Logic.{_⊎_, inl, inr}
 use mathlib.Core.Bool.{Bool, true, false, not, _&&_, _||_}
 use Prim.Native.Nat.{ℕ, _≤_, _<_}
 use native.Mathlib.Nat.{le-of-eq, le-of-lt, lt-irrefl, lt-of-lt-of-le, eq-or-lt-of-le}
 use native.Mathlib.Omega.{arith}
 use lib.Dec.{T, leb, ltb, eqb, lt→ltb, ltb→lt, eqb→eq, eqb-refl, not-T, leb→le, le→leb, nltb→le}
+use Rattle.answer.proofs.Both.{both-l, both-r}
 
 -- two tests that pass together are one
 pub same-test : (a b : Bool) → (T a → T b) → (T b → T a) → a ≡ b
@@ -21,26 +22,6 @@ T-true e = subst T (sym e) tt
 pub true-T : (b : Bool) → T b → b ≡ true
 true-T true t = refl
 true-T false t = absurd t
-
--- a test has one outcome
-pub not-true : (t : Bool) → (t ≡ true → ⊥) → t ≡ false
-not-true true h = absurd (h refl)
-not-true false h = refl
-
-pub no-both : {t : Bool} → t ≡ false → t ≡ true → ⊥
-no-both e g = subst T (sym g ∙ e) tt
-
--- both of two
-pub both : {a b : Bool} → a ≡ true → b ≡ true → (a && b) ≡ true
-both p q = simp (p, q)
-
-pub both-l : (a b : Bool) → (a && b) ≡ true → a ≡ true
-both-l true b e = refl
-both-l false b e = e
-
-pub both-r : (a b : Bool) → (a && b) ≡ true → b ≡ true
-both-r true b e = e
-both-r false b e = absurd (subst T (sym e) tt)
 
 -- all of four
 pub all-four : (a b c d : Bool) → (a && b && c && d) ≡ true → (a ≡ true) × (b ≡ true) × (c ≡ true) × (d ≡ true)

@@ -8,8 +8,8 @@ use lib.Dec.{T, leb}
 use lib.Ieee.{Float, nan, inf, fin, binary64, lt, eq, le, fits, ofBits, toBits}
 use lib.Ieee.Scale as Scale
 use lib.Ieee.Bits.{ofBits-toBits}
+use Rattle.answer.proofs.Both.{no-both}
 use Rattle.extent.specs.Rank.{finite, atMost}
-use Rattle.extent.proofs.Tests.{no-both}
 use Rattle.extent.proofs.Patterns.{finite-size, bits-finite, bits-not-finite}
 use Rattle.extent.proofs.Keys.{keyOf, key, le-at-most}
 use Rattle.extent.proofs.Order.{le-rank}

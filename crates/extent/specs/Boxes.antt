@@ -1,9 +1,10 @@
 -- A box is four floats: least x, least y, greatest x, greatest y. Here it is taken by their bit patterns. Assumes nothing.
-use Prim.Native.Nat.{ℕ}
+use Prim.Native.Nat.{ℕ, _+_}
 use mathlib.Core.Path.{_≡_}
 use mathlib.Core.Bool.{Bool, true, _&&_, cond}
 use mathlib.Core.List.{List, [], _∷_}
 use lib.Ieee.{Float, binary64, toBits}
+use Rattle.le.specs.Number.{numberAt}
 use Rattle.extent.specs.Rank.{finite, atMost, below, sameValue}
 use Rattle.extent.specs.declared.boxes.Box.{Box}
 
@@ -25,6 +26,15 @@ patterns b = record {
   least-y = bitsOf (b .«least_y»);
   greatest-x = bitsOf (b .«greatest_x»);
   greatest-y = bitsOf (b .«greatest_y»);
+}
+
+-- four patterns as they stand in bytes, from place at on
+unfoldable pub boundsAt : List ℕ → ℕ → Bounds
+boundsAt s at = record {
+  least-x = numberAt 8 s at;
+  least-y = numberAt 8 s (at + 8);
+  greatest-x = numberAt 8 s (at + 16);
+  greatest-y = numberAt 8 s (at + 24);
 }
 
 -- all four are finite: as a test, and one by one

@@ -7,14 +7,14 @@ use lib.ListN.{length, getD}
 use Rattle.answer.specs.Table as table
 use Rattle.answer.specs.Refusal.{because}
 use Rattle.answer.specs.Outcome.{Out, refused, ok, on, inPage}
-use Rattle.answer.proofs.Outcomes.{ok-inj, on-ok}
+use Rattle.answer.proofs.Outcomes.{ok-inj, on-ok, in-page-ok}
 use Rattle.shape.specs.Outline.{Shape, shapesOf}
 use Rattle.frame.specs.Frame.{Frame, frameOf}
 use Rattle.frame.specs.Frame as frame
 use Rattle.page.specs.Contents.{countsOf, lensOf, contentsOf}
 use Rattle.page.proofs.Orders.{on-value}
 use Rattle.file.specs.File.{shapesIn}
-use Rattle.search.proofs.Opened.{in-page-ok, contents-contained}
+use Rattle.page.proofs.Contained.{contents-contained}
 use Rattle.fetch.specs.declared.row.Row.{Row}
 use Rattle.fetch.specs.declared.span.Span.{Span}
 use Rattle.fetch.specs.Seek.{Seat, seatOf}

@@ -8,24 +8,19 @@ use borrow.Author.Tests.{ltb-true, ltb-false}
 use lib.Dec.{ltb}
 use lib.ListN.{length}
 use Rattle.answer.specs.Outcome.{Out, ok, on, inPage}
-use Rattle.answer.proofs.Outcomes.{ok-inj, on-ok}
+use Rattle.answer.proofs.Outcomes.{ok-inj, on-ok, in-page-ok}
 use Rattle.shape.specs.Outline.{Shape}
-use Rattle.frame.specs.declared.head.Head.{Head}
 use Rattle.frame.specs.Frame.{Page, Frame, frameOf}
 use Rattle.page.specs.Contents.{contentsOf}
 use Rattle.page.proofs.Orders.{on-refused, on-value}
+use Rattle.page.proofs.Contained.{contents-long}
 use Rattle.file.specs.File.{pagesOf, shapesIn}
-use Rattle.search.proofs.Opened.{in-page-ok, contents-contained, shapes-long}
 use Rattle.fetch.specs.Seek.{Seat, seekIn}
 use Rattle.fetch.specs.Fetch.{shapeAt, shapeOf, shapeIn}
 use Rattle.fetch.proofs.Seeking.{seek-none, seek-here, seek-on}
 use Rattle.fetch.proofs.Onwards.{seat-sound}
 use Rattle.fetch.proofs.Nth.{nth-none, nth-left, nth-right}
 use Rattle.fetch.proofs.Opens.{seat-contents}
-
--- a page that every rule let pass has as many shapes as its head says
-pub contents-many : (h : Head) (b : List ℕ) (ss : List Shape) → contentsOf h b ≡ ok ss → length ss ≡ h .g
-contents-many h b ss e = let c = contents-contained h b ss e in ap length (sym (c .shapes)) ∙ shapes-long h b (c .xs) (c .ys) (c .parts)
 
 -- the shapes of pages, by the first page
 pages-cons : (k : ℕ) (p : Page) (ps : List Page) (ss : List Shape) → pagesOf k (p ∷ ps) ≡ ok ss
@@ -55,7 +50,7 @@ seat-nth k n (p ∷ ps) ss e = go (ltb n (p .head .g)) refl (seat-nth (suc k) (n
     rest = pages-cons k p ps ss e .1
 
     many : length here ≡ p .head .g
-    many = contents-many (p .head) (p .body) here (pages-cons k p ps ss e .2)
+    many = contents-long (p .head) (p .body) here (pages-cons k p ps ss e .2)
 
     whole : here ++ rest ≡ ss
     whole = pages-cons k p ps ss e .4

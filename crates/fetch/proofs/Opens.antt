@@ -10,6 +10,7 @@ use Rattle.answer.specs.declared.Refusal.{Refusal}
 use Rattle.answer.specs.declared.Verdict.the-variants as verdict
 use Rattle.answer.specs.Outcome.{Out, refused, ok, on, inPage}
 use Rattle.answer.specs.Rule.{judged, passed}
+use Rattle.answer.proofs.Outcomes.{in-page-refused, in-page-value}
 use Rattle.answer.proofs.Rules.{refused-passed}
 use Rattle.le.proofs.Runs.{length-numbers}
 use Rattle.types.specs.Parts.{total, partsHold}
@@ -20,7 +21,7 @@ use Rattle.frame.specs.declared.head.Head.{Head}
 use Rattle.page.specs.Contents.{registersOf, typesOf, countsOf, lensOf, contentsOf}
 use Rattle.page.specs.Loaded.{Loaded}
 use Rattle.page.proofs.Orders.{on-refused, on-value}
-use Rattle.search.proofs.Opened.{in-page-refused, in-page-value, counts-long, loaded-ready}
+use Rattle.page.proofs.Contained.{counts-long, loaded-ready}
 use Rattle.fetch.specs.declared.row.Row.{Row}
 use Rattle.fetch.specs.declared.span.Span.{Span}
 use Rattle.fetch.specs.Seek.{Seat, seatOf}
@@ -70,7 +71,7 @@ pub listed-shape : (h : Head) (b xs ys : List ℕ) (i : ℕ) → partsHold (type
 unfolding rowOf registersOf
 listed-shape h b xs ys i q l =
     let r = length-numbers 4 (h .g) b (h .layout .registers) in
-    let c = counts-long h b xs ys q in
+    let c = counts-long h b in
     let t = agree-even (typesOf h b) (countsOf h b) (lensOf h b) (hold-agree (typesOf h b) (countsOf h b) (lensOf h b) (h .v) q) in
     span-shape (registersOf h b) (typesOf h b) (countsOf h b) (lensOf h b) xs ys i (omega (arith, r)) (omega (arith, t, c)) (omega (arith, c))
 
@@ -84,7 +85,7 @@ module _ (h : Head) (b counts lens xs ys : List ℕ) (y : Loaded h b counts lens
   pub loaded-spans : (i : ℕ) → i < h .g → h .v ≤ 2048 → (i < length counts) × (total counts ≡ length lens) × (length lens ≤ 2048) × (total lens ≤ 2048)
   loaded-spans i l f =
       let a = hold-agree (typesOf h b) counts lens (h .v) (y .parts) in
-      let n : length counts ≡ h .g = ap length (y .counts-are) ∙ counts-long h b xs ys held in
+      let n : length counts ≡ h .g = ap length (y .counts-are) ∙ counts-long h b in
       let t = hold-total (typesOf h b) counts lens (h .v) (y .parts) in
       (omega (arith, n), agree-counts (typesOf h b) counts lens a, omega (arith, t, parts-at-most (typesOf h b) counts lens a), omega (arith, t))
 

@@ -14,10 +14,10 @@ use Rattle.answer.specs.declared.Refusal.{Refusal}
 use Rattle.answer.specs.declared.Filled.the-variants as filled
 use Rattle.answer.specs.Outcome.{Out, refused, ok, on, Fills}
 use Rattle.answer.proofs.Outcomes.{never, ok-inj, met, unmet, on-ok, fills-refused, fills-ok}
+use Rattle.answer.proofs.Both.{both-l, both-r}
 use Rattle.le.proofs.Copying.{copy-more}
 use Rattle.types.specs.Every.{allOf}
 use Rattle.types.proofs.Alls.{all-none, all-cons}
-use Rattle.types.proofs.Both.{both-l, both-r}
 use Rattle.frame.specs.declared.cursor.Cursor.{Cursor}
 use Rattle.frame.specs.Step.{part}
 use Rattle.frame.specs.declared.walk.Totals.{Totals}

@@ -5,7 +5,7 @@ use mathlib.Core.Bool.{Bool, true, false, _&&_, _||_}
 use native.Mathlib.Omega.{arith}
 use borrow.Author.Tests.{leb-true, le-leb, lt-leb, eqb-true, eq-eqb}
 use lib.Dec.{leb, eqb}
-use Rattle.extent.proofs.Tests.{both-l, both-r}
+use Rattle.answer.proofs.Both.{both-l, both-r, and-false}
 use Rattle.frame.specs.Head.{countsOk}
 
 -- ---- the limits
@@ -40,10 +40,6 @@ counts-limits g v p e =
 -- ---- each way through `countsOk`
 
 -- each test that fails is a refusal, whatever the others say
-and-false : (a b : Bool) → b ≡ false → (a && b) ≡ false
-and-false true b e = e
-and-false false b e = refl
-
 module _ (g v p : ℕ) where
   pub counts-empty : g < 1 → countsOk g v p ≡ false
   unfolding countsOk

@@ -1,8 +1,7 @@
 -- Laws of the box of a page with v vertices: when its form is good, and the box itself then. Assumes nothing.
 use Prim.Native.Nat.{ℕ}
-use mathlib.Core.Path.{_≡_, refl, ap, _∙_}
+use mathlib.Core.Path.{_≡_, refl, sym, ap, _∙_}
 use mathlib.Core.Bool.{Bool, true, false, cond}
-use native.Mathlib.Omega.{arith}
 use lib.Dec.{eqb}
 use borrow.Author.Tests.{eq-eqb, ne-eqb, eqb-true}
 use Rattle.extent.specs.Rank.{finite}
@@ -12,7 +11,7 @@ use Rattle.extent.specs.declared.boxes.Box.{Box}
 use Rattle.extent.specs.declared.boxes.Form.{Form}
 use Rattle.extent.specs.declared.boxes.Form.the-variants.{Good, Bad}
 use Rattle.extent.proofs.Tests.{all-four}
-use Rattle.extent.proofs.Forms.{spot-good, good-finite}
+use Rattle.extent.proofs.Forms.{spot-good, good-finite, tested-good, tested-bad}
 use Rattle.frame.specs.Head.{allZero, boxOk, formIn}
 
 -- ---- all zero bytes
@@ -73,16 +72,8 @@ form-not-zero v p n z = rw (box-none v p n, z)
 
 pub form-in-good : (v : ℕ) (p : Bounds) (b : Box) → formIn v p ≡ Good b → (boxOk v p ≡ true) × (floatsOf p ≡ b)
 unfolding formIn
-form-in-good v p b = go (boxOk v p)
-  where
-    go : (t : Bool) → cond t (Good (floatsOf p)) Bad ≡ Good b → (t ≡ true) × (floatsOf p ≡ b)
-    go true e = (refl, cc)
-    go false e = let z : _≡_ {A = ℕ} 0 1 = cc in absurd (omega arith)
+form-in-good v p b e = let g = tested-good (boxOk v p) p b e in (g .0, sym (g .1))
 
 pub form-in-bad : (v : ℕ) (p : Bounds) → formIn v p ≡ Bad → boxOk v p ≡ false
 unfolding formIn
-form-in-bad v p = go (boxOk v p)
-  where
-    go : (t : Bool) → cond t (Good (floatsOf p)) Bad ≡ Bad → t ≡ false
-    go true e = let z : _≡_ {A = ℕ} 0 1 = cc in absurd (omega arith)
-    go false e = refl
+form-in-bad v p = tested-bad (boxOk v p) p

@@ -10,13 +10,13 @@ use lib.ListN.{length}
 use lib.Dec.{eqb}
 use Rattle.answer.specs.Table.{kind}
 use Rattle.answer.specs.Refusal.{because}
-use Rattle.answer.specs.Outcome.{Out, refused, ok, inPage}
-use Rattle.answer.proofs.Outcomes.{never, ok-inj, need-ok, on-ok}
+use Rattle.answer.specs.Outcome.{refused, ok}
+use Rattle.answer.proofs.Outcomes.{never, ok-inj, need-ok, on-ok, in-page-value, in-page-ok}
+use Rattle.answer.proofs.Both.{both-l, both-r}
 use Rattle.le.specs.declared.block.Block.{Block}
 use Rattle.le.specs.Number.{numberAt}
 use Rattle.le.specs.Block.{blockAt}
 use Rattle.le.proofs.Blocks.{block-found}
-use Rattle.extent.proofs.Tests.{both-l, both-r}
 use Rattle.frame.specs.declared.cursor.Cursor.{Cursor}
 use Rattle.frame.specs.declared.cursor.PageAt.{PageAt}
 use Rattle.frame.specs.Head.{headOf}
@@ -96,16 +96,6 @@ pub record Ended (s : List ℕ) (c : Cursor) : Type 0 where
   pub pages-at : numberAt 4 s (c .at + 6) ≡ c .pages
   pub shapes-at : numberAt 4 s (c .at + 10) ≡ c .shapes
   pub last : c .at + 14 ≡ length s
-
--- a refusal's page is no value's matter
-in-page-ok : {A : Type 0} (k : ℕ) (x : Out A) (a : A) → inPage k x ≡ ok a → x ≡ ok a
-unfolding inPage
-in-page-ok k (refused w) a e = absurd (never e)
-in-page-ok k (ok b) a e = e
-
-in-page : {A : Type 0} (k : ℕ) (x : Out A) (a : A) → x ≡ ok a → inPage k x ≡ ok a
-unfolding inPage
-in-page k x a e = rw e
 
 module _ (s : List ℕ) (c : Cursor) where
   -- what a page block and an end block come to
@@ -190,7 +180,7 @@ module _ (s : List ℕ) (c : Cursor) where
   is-page p k =
       let b : Block = record { kind = 2; body = p .body; len = p .len } in
       step-found s c b (is-block s (c .at) 2 (p .body) (p .len) (k .stands))
-      ∙ in-page (c .pages) (kindStep s c b) (page p)
+      ∙ in-page-value (c .pages) (page p)
       (kind-page s c b refl
       ∙ page-good s c b (k .few) (p .head) (k .headed)
       ∙ ap (λ (n : Cursor). ok (page (record { head = p .head; body = p .body; len = p .len; next = n }))) (sym (k .next)))
@@ -201,6 +191,6 @@ module _ (s : List ℕ) (c : Cursor) where
       let ten : c .at + 6 + 4 ≡ c .at + 10 = omega arith in
       let not-two : (_≡_ {A = ℕ} 3 2 → ⊥) = λ q. omega arith in
       step-found s c b (is-block s (c .at) 3 (c .at + 6) 8 (k .stands))
-      ∙ in-page (c .pages) (kindStep s c b) end
+      ∙ in-page-value (c .pages) end
       (kind-end s c b not-two refl
       ∙ end-good s c b refl (c .pages) (sym (k .pages-at)) refl (c .shapes) (sym (ap (numberAt 4 s) ten ∙ k .shapes-at)) refl (omega (arith, k .last)))

@@ -13,7 +13,7 @@ use Rattle.answer.specs.Outcome.{refused, ok}
 use Rattle.answer.proofs.Outcomes.{never, ok-inj, refused-inj, met, unmet, need-ok}
 use Rattle.le.specs.Number.{numberAt}
 use Rattle.le.proofs.Numbers.{Bytes, number-at-lt}
-use Rattle.extent.specs.Boxes.{FiniteBox, patterns, goodForm}
+use Rattle.extent.specs.Boxes.{boundsAt, FiniteBox, patterns, goodForm}
 use Rattle.extent.specs.Forms.{floatsOf}
 use Rattle.extent.specs.declared.boxes.Box.{Box}
 use Rattle.extent.specs.declared.boxes.Form.the-variants.{Good}
@@ -23,7 +23,7 @@ use Rattle.frame.specs.declared.head.Head.{Head}
 use Rattle.frame.specs.declared.head.HeadRead.{HeadRead}
 use Rattle.frame.specs.declared.head.HeadRead.the-variants as read
 use Rattle.frame.specs.Layout.{layoutOf}
-use Rattle.frame.specs.Head.{countsOk, boundsAt, allZero, boxOk, sizedHead, headOf}
+use Rattle.frame.specs.Head.{countsOk, allZero, boxOk, sizedHead, headOf}
 use Rattle.frame.specs.Said.{saidHead}
 use Rattle.frame.proofs.Layouts.{columns-at, columns-le, sizes-from}
 use Rattle.frame.proofs.Counts.{Limits, counts-limits}
@@ -64,7 +64,7 @@ module _ (edition : ℕ) (b : List ℕ) (g v p : ℕ) (l : Layout) (el : layoutO
         ∙ unmet (because cut) _ (ne-eqb (length b) (l .columns + cx + cy) (λ q. n (omega arith))))
 
     module _ (e : length b ≡ l .columns + cx + cy) where
-      pub sized-box : boxOk v (boundsAt b) ≡ false → sizedHead edition b g v p ≡ refused (because boxForm)
+      pub sized-box : boxOk v (boundsAt b 6) ≡ false → sizedHead edition b g v p ≡ refused (because boxForm)
       unfolding sizedHead
       sized-box f =
           rw (el, ex, ey)
@@ -72,7 +72,7 @@ module _ (edition : ℕ) (b : List ℕ) (g v p : ℕ) (l : Layout) (el : layoutO
           ∙ met (because cut) _ (eq-eqb (length b) (l .columns + cx + cy) e)
           ∙ unmet (because boxForm) _ f)
 
-      pub sized-good : (box : Box) → boxOk v (boundsAt b) ≡ true → floatsOf (boundsAt b) ≡ box
+      pub sized-good : (box : Box) → boxOk v (boundsAt b 6) ≡ true → floatsOf (boundsAt b 6) ≡ box
           → sizedHead edition b g v p ≡ ok (record { g = g; v = v; p = p; bounds = box; cx = cx; cy = cy; layout = l })
       unfolding sizedHead
       sized-good box f eb =
@@ -113,8 +113,8 @@ pub record Headed (edition : ℕ) (b : List ℕ) (h : Head) : Type 0 where
   pub x-at : h .cx ≡ numberAt 4 b (h .layout .sizes)
   pub y-at : h .cy ≡ numberAt 4 b (h .layout .sizes + 4)
   pub exact : length b ≡ h .layout .columns + h .cx + h .cy
-  pub form : boxOk (h .v) (boundsAt b) ≡ true
-  pub boxed : h .bounds ≡ floatsOf (boundsAt b)
+  pub form : boxOk (h .v) (boundsAt b 6) ≡ true
+  pub boxed : h .bounds ≡ floatsOf (boundsAt b 6)
 
 module _ (edition : ℕ) (b : List ℕ) (h : Head) where
   -- a head that is read says this
@@ -152,15 +152,15 @@ module _ (edition : ℕ) (b : List ℕ) (h : Head) where
     pub head-limits : Limits (h .g) (h .v) (h .p)
     head-limits = counts-limits (h .g) (h .v) (h .p) (k .limits)
 
-    pub head-finite : FiniteBox (boundsAt b)
-    head-finite = box-finite (h .v) (boundsAt b) (k .form)
+    pub head-finite : FiniteBox (boundsAt b 6)
+    head-finite = box-finite (h .v) (boundsAt b 6) (k .form)
 
     -- with no vertex all zero bytes, else finite and not reversed
-    pub head-zero : h .v ≡ 0 → allZero (boundsAt b) ≡ true
-    head-zero z = sym (box-none (h .v) (boundsAt b) z) ∙ k .form
+    pub head-zero : h .v ≡ 0 → allZero (boundsAt b 6) ≡ true
+    head-zero z = sym (box-none (h .v) (boundsAt b 6) z) ∙ k .form
 
-    pub head-good : (h .v ≡ 0 → ⊥) → goodForm (boundsAt b) ≡ true
-    head-good n = sym (box-some (h .v) (boundsAt b) n) ∙ k .form
+    pub head-good : (h .v ≡ 0 → ⊥) → goodForm (boundsAt b 6) ≡ true
+    head-good n = sym (box-some (h .v) (boundsAt b 6) n) ∙ k .form
 
     -- the body reaches to the columns
     pub head-reaches : 46 ≤ length b
@@ -179,10 +179,10 @@ module _ (edition : ℕ) (b : List ℕ) (h : Head) where
         )
 
     -- the box's patterns are those that stand there
-    pub head-patterns : Bytes b → patterns (h .bounds) ≡ boundsAt b
-    head-patterns y = ap patterns (k .boxed) ∙ floats-patterns (boundsAt b) words head-finite
+    pub head-patterns : Bytes b → patterns (h .bounds) ≡ boundsAt b 6
+    head-patterns y = ap patterns (k .boxed) ∙ floats-patterns (boundsAt b 6) words head-finite
       where
-        words : Words (boundsAt b)
+        words : Words (boundsAt b 6)
         words = unfold boundsAt in record {
           least-x = number-at-lt 8 b 6 y;
           least-y = number-at-lt 8 b 14 y;

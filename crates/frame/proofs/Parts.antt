@@ -1,15 +1,15 @@
 -- A block's bytes and what is found of them: a block that is put at a place stands there, and one that stands there is those bytes. Assumes
 -- nothing.
-use Prim.Native.Nat.{ℕ, zero, suc, _+_, _^_, _≤_, _<_, zero-le, suc-le-suc}
-use mathlib.Core.Path.{_≡_, refl, sym, ap, ap₂, subst, _∙_}
-use mathlib.Core.List.{List, [], _∷_, _++_, append-assoc}
+use Prim.Native.Nat.{ℕ, _+_, _^_, _≤_, _<_}
+use mathlib.Core.Path.{_≡_, refl, sym, ap, ap₂, _∙_}
+use mathlib.Core.List.{List, _++_, append-assoc}
 use native.Mathlib.Nat.{mod-eq-of-lt}
 use native.Mathlib.Omega.{arith}
 use lib.ListN.{length, take, drop, length-append, length-drop, take-append-drop}
-use lib.Seq.{length-take-le, take-at, drop-drop, drop-append-add, getD-drop}
+use lib.Seq.{length-take-le, take-at, drop-drop, drop-append-add}
 use Rattle.le.specs.Number.{number, numberAt, bytesOf}
 use Rattle.le.specs.Block.{headOf}
-use Rattle.le.proofs.Numbers.{Bytes}
+use Rattle.le.proofs.Numbers.{Bytes, bytes-part}
 use Rattle.le.proofs.Bytes.{bytes-number, number-at-append}
 use Rattle.le.proofs.Blocks.{length-head, head-len, head-kind}
 use Rattle.frame.specs.Step.{part}
@@ -17,15 +17,6 @@ use Rattle.frame.specs.Whole.{blockOf}
 use Rattle.frame.proofs.Found.{Stands}
 
 -- ---- bytes in parts
-
-bytes-take : (k : ℕ) (l : List ℕ) → Bytes l → Bytes (take k l)
-bytes-take zero l h j = suc-le-suc zero-le
-bytes-take (suc k) [] h j = h j
-bytes-take (suc k) (x ∷ l) h zero = h 0
-bytes-take (suc k) (x ∷ l) h (suc j) = bytes-take k l (λ i. h (suc i)) j
-
-bytes-drop : (n : ℕ) (l : List ℕ) → Bytes l → Bytes (drop n l)
-bytes-drop n l h j = subst (λ (x : ℕ). x < 256) (sym (getD-drop n l j 0)) (h (n + j))
 
 pub length-part : (s : List ℕ) (at len : ℕ) → at + len ≤ length s → length (part s at len) ≡ len
 length-part s at len h = length-take-le len (drop at s) (omega (arith, length-drop at s))
@@ -35,7 +26,7 @@ pub bytes-at : (k : ℕ) (s : List ℕ) (at : ℕ) → Bytes s → at + k ≤ le
 unfolding numberAt
 bytes-at k s at y h =
     ap (λ (n : ℕ). bytesOf n (number (part s at k))) (sym (length-part s at k h))
-    ∙ bytes-number (part s at k) (bytes-take k (drop at s) (bytes-drop at s y))
+    ∙ bytes-number (part s at k) (bytes-part s at k y)
 
 -- what stands from a place on is its first k bytes and what stands behind them
 pub cut-at : (k : ℕ) (s : List ℕ) (at : ℕ) → drop at s ≡ part s at k ++ drop (at + k) s

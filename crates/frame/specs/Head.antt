@@ -11,7 +11,7 @@ use Rattle.answer.specs.Outcome.{Out, ok, need}
 use Rattle.le.specs.Number.{numberAt}
 use Rattle.extent.specs.declared.boxes.Form.{Form}
 use Rattle.extent.specs.declared.boxes.Form.the-variants.{Good, Bad}
-use Rattle.extent.specs.Boxes.{Bounds, goodForm}
+use Rattle.extent.specs.Boxes.{Bounds, boundsAt, goodForm}
 use Rattle.extent.specs.Forms.{floatsOf}
 use Rattle.frame.specs.declared.head.Head.{Head}
 use Rattle.frame.specs.Layout.{layoutOf}
@@ -19,10 +19,6 @@ use Rattle.frame.specs.Layout.{layoutOf}
 -- the limits: 1 to 256 shapes, at most 2,048 vertices, p ≤ v, and p = 0 only if v = 0
 unfoldable pub countsOk : ℕ → ℕ → ℕ → Bool
 countsOk g v p = leb 1 g && leb g 256 && leb v 2048 && leb p v && (leb 1 p || eqb v 0)
-
--- the four patterns of the box
-unfoldable pub boundsAt : List ℕ → Bounds
-boundsAt b = record { least-x = numberAt 8 b 6; least-y = numberAt 8 b 14; greatest-x = numberAt 8 b 22; greatest-y = numberAt 8 b 30 }
 
 -- all zero bytes
 unfoldable pub allZero : Bounds → Bool
@@ -44,8 +40,8 @@ sizedHead edition b g v p =
     (let cx = numberAt 4 b (l .sizes) in
     let cy = numberAt 4 b (l .sizes + 4) in
     need (eqb (length b) (l .columns + cx + cy)) (because cut)
-    (need (boxOk v (boundsAt b)) (because boxForm)
-    (ok (record { g = g; v = v; p = p; bounds = floatsOf (boundsAt b); cx = cx; cy = cy; layout = l }))))
+    (need (boxOk v (boundsAt b 6)) (because boxForm)
+    (ok (record { g = g; v = v; p = p; bounds = floatsOf (boundsAt b 6); cx = cx; cy = cy; layout = l }))))
 
 -- the head of a body
 unfoldable pub headOf : ℕ → List ℕ → Out Head

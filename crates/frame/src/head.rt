@@ -4,7 +4,8 @@ ghost use Prim.Native.Nat.{_≤_};
 ghost use lib.ListN.{length};
 ghost use Rattle.answer.specs.Refusal.{because};
 ghost use Rattle.answer.specs.Outcome.{refused};
-ghost use Rattle.frame.specs.Head.{countsOk, allZero, boundsAt, formIn, sizedHead, headOf};
+ghost use Rattle.extent.specs.Boxes.{boundsAt};
+ghost use Rattle.frame.specs.Head.{countsOk, allZero, formIn, sizedHead, headOf};
 ghost use Rattle.frame.specs.Said.{saidHead};
 use crate::layout::Layout;
 use crate::layout::layout_of;
@@ -85,7 +86,7 @@ fn form_in(v: usize, least_x: u64, least_y: u64, greatest_x: u64, greatest_y: u6
 // The box in a page's body.
 fn box_in(v: usize, b: &[u8]) -> Form
     requires { ⌜ 38 ≤ length (now b) ⌝ }
-    ensures { λ r. ⌜ r ≡ formIn v (boundsAt (now (b .entry))) ⌝ }
+    ensures { λ r. ⌜ r ≡ formIn v (boundsAt (now (b .entry)) 6) ⌝ }
 {
     form_in(v, u64_at(b, 6), u64_at(b, 14), u64_at(b, 22), u64_at(b, 30))
 }

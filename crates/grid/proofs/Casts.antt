@@ -10,7 +10,8 @@ use lib.IntN.{natAbs}
 use lib.Ieee.{Float, nan, inf, fin, binary64, up, down, span, climb, size, whole, inSigned, toSigned, toBits}
 use lib.Ieee.Scale.{finite}
 use lib.Ieee.Casts.{toSigned-cut}
-use Rattle.extent.proofs.Tests.{T-true, both, both-l, both-r}
+use Rattle.answer.proofs.Both.{both, both-l, both-r}
+use Rattle.extent.proofs.Tests.{T-true}
 use Rattle.grid.specs.Grid.{onGridFloat, wholeOfFloat}
 use Rattle.grid.proofs.Sizes.{abs-signed}
 

@@ -12,7 +12,8 @@ use lib.Ieee.{Float, nan, inf, fin, up, down, binary64, ofBits}
 use lib.Ieee.Fits.{down-pos}
 use lib.Ieee.Exact.{HasValue}
 use lib.Ieee.Nearest.{div-same}
-use Rattle.extent.proofs.Tests.{same-test, T-true, true-T, not-true, both-l, both-r}
+use Rattle.answer.proofs.Both.{not-true, both-l, both-r}
+use Rattle.extent.proofs.Tests.{same-test, T-true, true-T}
 use Rattle.extent.proofs.Patterns.{bits-value, finite-size}
 use Rattle.extent.proofs.Magnitudes.{magnitude, size-of, patterns-same}
 use Rattle.grid.specs.Grid.{onGridFloat, onGrid}

@@ -13,8 +13,9 @@ use lib.IntN.{pos, natAbs}
 use lib.ListN.{length, getD, take, drop, drop-of-length-le}
 use lib.Seq.{drop-cons}
 use lib.Ieee.{binary64, ofBits, ofFields, inSigned, toSigned}
+use Rattle.answer.proofs.Both.{not-true, no-both, both, both-l, both-r}
 use Rattle.extent.specs.Rank.{finite}
-use Rattle.extent.proofs.Tests.{same-test, T-true, true-T, not-true, no-both, both, both-l, both-r}
+use Rattle.extent.proofs.Tests.{same-test, T-true, true-T}
 use Rattle.extent.proofs.Patterns.{bits-not-finite, bits-back}
 use Rattle.grid.specs.Grid.{onGrid, wholeOf, allOnGrid}
 use Rattle.grid.proofs.Casts.{off-not-finite, whole-within, minusZero, minus-zero-bits, cast-allowed, cast-whole}

@@ -14,7 +14,7 @@ use lib.ListN.{length, getD, drop, drop-of-length-le}
 use lib.Seq.{drop-cons}
 use mir.Syntax.{w64}
 use mir.Val.{SFits, ofZ}
-use Rattle.extent.proofs.Tests.{both-l, both-r}
+use Rattle.answer.proofs.Both.{both-l, both-r}
 use Rattle.grid.specs.Grid.{onGrid, wholeOf, allOnGrid}
 use Rattle.grid.specs.Turn.{edge, turnOf, clockwise, zeroTurn}
 use Rattle.grid.proofs.Sizes.{mul-within, add-within, sub-within}

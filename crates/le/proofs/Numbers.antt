@@ -47,6 +47,16 @@ bytes-drop s zero h = h
 bytes-drop [] (suc i) h = h
 bytes-drop (b ∷ s) (suc i) h = bytes-drop s i (λ j. h (suc j))
 
+bytes-take : (s : List ℕ) (k : ℕ) → Bytes s → Bytes (take k s)
+bytes-take s zero h j = suc-le-suc zero-le
+bytes-take [] (suc k) h j = h j
+bytes-take (b ∷ s) (suc k) h zero = h 0
+bytes-take (b ∷ s) (suc k) h (suc j) = bytes-take s k (λ i. h (suc i)) j
+
+-- a part of bytes is bytes
+pub bytes-part : (s : List ℕ) (at len : ℕ) → Bytes s → Bytes (take len (drop at s))
+bytes-part s at len h = bytes-take (drop at s) len (bytes-drop s at h)
+
 pub byte-at : (s : List ℕ) (i : ℕ) → Bytes s → number s / 2 ^ (8 * i) % 2 ^ 8 ≡ getD s i 0
 byte-at s i h = ap (λ (x : ℕ). x % 256) (number-drop s i h) ∙ head-of (drop i s) (bytes-drop s i h) ∙ getD-drop0 s i
 

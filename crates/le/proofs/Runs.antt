@@ -1,5 +1,5 @@
 -- Laws of runs of numbers of k bytes each. Assumes nothing.
-use Prim.Native.Nat.{ℕ, zero, suc, _+_, _*_, _^_, _≤_, _<_}
+use Prim.Native.Nat.{ℕ, zero, suc, _+_, _*_, _%_, _^_, _≤_, _<_}
 use mathlib.Core.Path.{_≡_, refl, sym, ap, ap₂, _∙_}
 use mathlib.Core.List.{List, [], _∷_, _++_, append-nil, append-assoc}
 use native.Mathlib.Nat.{mod-eq-of-lt}
@@ -93,3 +93,14 @@ numbers-run k (x ∷ xs) r h =
     ∙ ap₂ _∷_
     (number-at-bytesOf k x t ∙ mod-eq-of-lt (h 0))
     (ap (numbersAt k (length xs) (bytesOf k x ++ t)) e ∙ numbers-append k (length xs) (bytesOf k x) t 0 ∙ numbers-run k xs r (λ i. h (suc i)))
+
+-- number i of a run that was put
+pub run-at : (k : ℕ) (xs : List ℕ) (i : ℕ) → i < length xs → numberAt k (runOf k xs) (k * i) ≡ getD xs i 0 % 2 ^ (8 * k)
+unfolding runOf
+run-at k [] i h = absurd (omega arith)
+run-at k (x ∷ xs) zero h =
+    let e : k * 0 ≡ 0 = omega arith in
+    ap (numberAt k (bytesOf k x ++ runOf k xs)) e ∙ number-at-bytesOf k x (runOf k xs)
+run-at k (x ∷ xs) (suc i) h =
+    let e : k * suc i ≡ length (bytesOf k x) + k * i = omega (arith, length-bytesOf k x) in
+    ap (numberAt k (bytesOf k x ++ runOf k xs)) e ∙ number-at-append k (bytesOf k x) (runOf k xs) (k * i) ∙ run-at k xs i (omega arith)

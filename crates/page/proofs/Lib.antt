@@ -3,3 +3,4 @@ pub mod Vertices
 pub mod Orders
 pub mod Ruled
 pub mod Loading
+pub mod Contained

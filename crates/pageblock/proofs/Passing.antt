@@ -15,8 +15,8 @@ use Rattle.answer.specs.Outcome.{ok, on}
 use Rattle.answer.specs.Rule.{judged}
 use Rattle.answer.proofs.Outcomes.{on-ok}
 use Rattle.answer.proofs.Rules.{rule-holds, rule-fails, rule-ok, judged-holds, judged-refused}
+use Rattle.answer.proofs.Both.{both-l, both-r}
 use Rattle.types.specs.Parts.{partsHold, partsRule}
-use Rattle.types.proofs.Both.{both-l, both-r}
 use Rattle.types.proofs.Passed.{parts-passed}
 use Rattle.extent.specs.Rank.{allFinite}
 use Rattle.shape.specs.Rules.{finiteRule}

@@ -10,7 +10,7 @@ use borrow.Author.Tests.{eqb-true, eqb-false}
 use Rattle.answer.specs.Table as table
 use Rattle.answer.specs.Outcome.{ok}
 use Rattle.answer.proofs.Rules.{rule-holds}
-use Rattle.extent.specs.Boxes.{Bounds, patterns, spotOf, boxOf}
+use Rattle.extent.specs.Boxes.{Bounds, boundsAt, patterns, spotOf, boxOf}
 use Rattle.extent.specs.Forms.{floatsOf}
 use Rattle.extent.proofs.Boxed.{box-met, box-good}
 use Rattle.extent.proofs.Firsts.{Met}
@@ -26,7 +26,7 @@ use Rattle.shape.specs.Rules.{boxHolds, boxRule}
 use Rattle.frame.specs.declared.layout.Layout.{Layout}
 use Rattle.frame.specs.Layout.{each, layoutOf}
 use Rattle.frame.specs.Whole.{Says}
-use Rattle.frame.specs.Head.{allZero, boxOk, boundsAt, headOf}
+use Rattle.frame.specs.Head.{allZero, boxOk, headOf}
 use Rattle.frame.proofs.Forms.{box-none, box-some, box-finite}
 use Rattle.frame.proofs.Heads.{Headed, is-head, head-long}
 use Rattle.frame.proofs.Layouts.{columns-at}
@@ -91,7 +91,7 @@ module _ (i : Handed) (t : Typed i) (q : Passed i) where
   words : Words (boxOf (i .xs) (i .ys))
   words = box-words i t (s .same)
 
-  bounds : boundsAt (bodyOf i) ≡ boxOf (i .xs) (i .ys)
+  bounds : boundsAt (bodyOf i) 6 ≡ boxOf (i .xs) (i .ys)
   unfolding boundsAt
   bounds k = record {
     least-x = number-stands 8 _ (bodyOf i) _ 6 (words .least-x) (at-least-x i .1) k;

@@ -4,10 +4,9 @@ use mathlib.Core.Path.{_≡_, refl, sym, ap, ap₂, _∙_, subst}
 use mathlib.Core.List.{List, [], _∷_}
 use mathlib.Core.Bool.{Bool, true, false}
 use Prim.Native.Nat.{ℕ, suc, _+_, _-_, _*_, _/_, _%_, _^_, _≤_, _<_}
-use native.Mathlib.Nat.{add-assoc, div-one, mod-lt, mod-eq-of-lt}
-use native.Mathlib.Omega.{arith}
+use native.Mathlib.Nat.{le-of-eq, add-assoc, div-one, mod-lt, mod-eq-of-lt}
 use lib.Dec.{leb, eqb}
-use lib.ListN.{length, getD}
+use lib.ListN.{length, getD, drop-of-length-le}
 use lib.Pow.{pow-pos}
 use borrow.Author.Tests.{leb-true, eqb-true, eqb-false}
 use Rattle.answer.specs.Outcome.{Out, ok}
@@ -97,14 +96,10 @@ read-held P s n room vs hp hb h =
         count : length vs ≡ n
         count = scratch-ok P s n [] vs d .0
 
-        empty : (x : List ℕ) → length x ≡ 0 → x ≡ []
-        empty [] e = refl
-        empty (y ∷ x) e = absurd (omega arith)
-
         go : (t : Bool) → eqb n 0 ≡ t → Holds P s n room vs
         go true e =
             let r = none-ok P s n vs (eqb-true _ _ e) d in
-            let sq : s ≡ [] = empty s (r .0) in
+            let sq : s ≡ [] = drop-of-length-le s {i = 0} (le-of-eq (r .0)) in
             record { column = rw (sq, r .1) column-none; patterns = rw (r .1) below-none; count = count; few = h3; enough = h2 }
         go false e =
             let o = some-ok P s n vs (eqb-false _ _ e) d in

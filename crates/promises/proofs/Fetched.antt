@@ -12,10 +12,11 @@ use Rattle.answer.specs.declared.Refusal.{Refusal}
 use Rattle.answer.specs.Refusal.{because}
 use Rattle.answer.specs.Outcome.{Out, refused, ok}
 use Rattle.answer.proofs.Outcomes.{never, refused-inj, need-ok, on-ok}
-use Rattle.extent.proofs.Tests.{no-both}
+use Rattle.answer.proofs.Both.{no-both}
 use Rattle.query.specs.declared.ask.Ask.{Ask}
 use Rattle.shape.specs.Outline.{Shape}
 use Rattle.page.specs.Contents.{contentsOf}
+use Rattle.page.proofs.Contained.{contents-long}
 use Rattle.file.specs.File.{shapesIn}
 use Rattle.search.specs.Search.{hitsOf, searchOf}
 use Rattle.search.specs.Listed.{listed}
@@ -25,7 +26,7 @@ use Rattle.fetch.specs.Seek.{Seat, seatOf}
 use Rattle.fetch.specs.Fetch.{shapeOf, shapeIn}
 use Rattle.fetch.proofs.Nth.{nth-some, nth-drop}
 use Rattle.fetch.proofs.Opens.{place-seat, seat-refused, seat-contents}
-use Rattle.fetch.proofs.Fetching.{contents-many, fetch-nth}
+use Rattle.fetch.proofs.Fetching.{fetch-nth}
 use Rattle.fetch.proofs.Accepted.{seat-within, seat-inside}
 use Rattle.writer.specs.Run.{Call, Held, takenOf, TypedCalls}
 use Rattle.promises.specs.Numbers as numbers
@@ -62,7 +63,7 @@ listed-never-17 a s room l p w e h r q =
         let n : v .number ≡ 17 = ap (λ (x : Refusal). x .number) (refused-inj (sym (seat-refused t v c) ∙ f)) ∙ q in
         no-both refl (subst (λ (x : ℕ). oneOf x numbers.contents ≡ true) n (contents-give (t .held .head) (t .held .body) .number v c))
     go t i (ok here) c f =
-        let x = nth-some (t .index) here (omega (arith, i, contents-many (t .held .head) (t .held .body) here c)) in
+        let x = nth-some (t .index) here (omega (arith, i, contents-long (t .held .head) (t .held .body) here c)) in
         never (sym f ∙ seat-contents t here c ∙ x .1)
 
 -- every shape as it was handed in

@@ -13,8 +13,7 @@ use Rattle.answer.specs.Refusal.{because, onPage}
 use Rattle.answer.specs.Outcome.{Out, refused, ok, need, on, inPage}
 use Rattle.answer.specs.Rule.{rule}
 use Rattle.answer.proofs.Outcomes.{never, refused-inj}
-use Rattle.extent.proofs.Tests.{no-both}
-use Rattle.types.proofs.Both.{both-l, both-r}
+use Rattle.answer.proofs.Both.{no-both, both-l, both-r}
 use Rattle.le.specs.Block.{blockAt}
 use Rattle.entry.specs.Step.{pick}
 use Rattle.column.specs.Write.{writeOf}

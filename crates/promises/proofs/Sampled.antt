@@ -11,7 +11,7 @@ use Rattle.entry.specs.Step.{unzigzag}
 use Rattle.entry.specs.Entry.{sizeAt, valueAt, after, values}
 use Rattle.column.specs.Read.{saidBy, endOf, closed, someOf, decodeOf}
 use Rattle.extent.specs.Rank.{rank, finite, allFinite, atMost, below, sameValue}
-use Rattle.extent.specs.Boxes.{fourFinite, inOrder, goodForm, sameBox, meets, lesser, greater, leastOf, greatestOf, boxOf}
+use Rattle.extent.specs.Boxes.{boundsAt, fourFinite, inOrder, goodForm, sameBox, meets, lesser, greater, leastOf, greatestOf, boxOf}
 use lib.Ieee.{ofBits, toBits, ofFields}
 use Rattle.types.specs.Every.{allOf}
 use Rattle.types.specs.Types.{rowOf}
@@ -22,7 +22,7 @@ use Rattle.shape.specs.Outline.{outlinesOf, partsOf, shapesOf}
 use Rattle.shape.specs.Rules.{finiteRule, endsMeet, closedRing, ringsClosed, ringRule, onGridShape, gridRule, ringTurn, turned, firstClockwise, ringsTurned, turnsHold, turnRule, boxHolds, boxRule}
 use Rattle.frame.specs.Layout.{each, layoutOf}
 use Rattle.frame.specs.Head as page
-use Rattle.frame.specs.Head.{countsOk, boundsAt, allZero, boxOk, sizedHead}
+use Rattle.frame.specs.Head.{countsOk, allZero, boxOk, sizedHead}
 use Rattle.frame.specs.Step.{firstStep, firstOf, pageStep, endStep, kindStep, stepOf}
 use Rattle.frame.specs.Frame as frame
 use Rattle.frame.specs.Frame.{walk, frameOf}
@@ -30,7 +30,6 @@ use Rattle.page.specs.Contents.{registersOf, typesOf, countsOf, lensOf, xPart, 
 use Rattle.file.specs.File.{pagesOf}
 use Rattle.file.specs.Check.{checkOf}
 use Rattle.query.specs.Ask.{sound, reachOf, stored, inWindow, touches, hit, opens}
-use Rattle.query.specs.Block as block
 use Rattle.query.specs.Block.{instead, bodyLen, lenOf, blockLen, spotAsked, windowAsked, asked, askOf}
 use Rattle.search.specs.Search.{placesOf, hitsFrom, pageHits, metOf, metIn, hitsOf, searchOf}
 use Rattle.promises.specs.Sample.{sample, zeroed, minusZero, five, ten, tenAndAHalf, foundBy}
@@ -50,5 +49,5 @@ Found =
     × (foundBy [] ≡ ok (0 ∷ 1 ∷ 2 ∷ 3 ∷ []))
 
 pub sample-found : Found
-unfolding need on inPage rule number numberAt numbersAt blockAt unzigzag sizeAt valueAt after values saidBy endOf closed someOf decodeOf rank finite allFinite atMost below sameValue fourFinite inOrder goodForm sameBox lesser greater leastOf greatestOf boxOf allOf rowOf total fits lengthsFit rowAgrees shapeAgrees partsAgree partsHold partsRule ofBits toBits ofFields onGrid wholeOf allOnGrid turnOf clockwise zeroTurn outlinesOf partsOf shapesOf finiteRule endsMeet closedRing ringsClosed ringRule onGridShape gridRule ringTurn turned firstClockwise ringsTurned turnsHold turnRule boxHolds boxRule each layoutOf countsOk boundsAt allZero boxOk sizedHead page.headOf firstStep firstOf pageStep endStep kindStep stepOf walk frameOf frame.shapesOf registersOf typesOf countsOf lensOf xPart yPart verticesOf outlineRules contentsOf runOf bytesOf headOf meets instead bodyLen lenOf blockLen spotAsked windowAsked asked askOf block.boundsAt sound reachOf stored inWindow touches hit opens placesOf hitsFrom pageHits metOf metIn hitsOf searchOf
+unfolding need on inPage rule number numberAt numbersAt blockAt unzigzag sizeAt valueAt after values saidBy endOf closed someOf decodeOf rank finite allFinite atMost below sameValue fourFinite inOrder goodForm sameBox lesser greater leastOf greatestOf boxOf allOf rowOf total fits lengthsFit rowAgrees shapeAgrees partsAgree partsHold partsRule ofBits toBits ofFields onGrid wholeOf allOnGrid turnOf clockwise zeroTurn outlinesOf partsOf shapesOf finiteRule endsMeet closedRing ringsClosed ringRule onGridShape gridRule ringTurn turned firstClockwise ringsTurned turnsHold turnRule boxHolds boxRule each layoutOf countsOk boundsAt allZero boxOk sizedHead page.headOf firstStep firstOf pageStep endStep kindStep stepOf walk frameOf frame.shapesOf registersOf typesOf countsOf lensOf xPart yPart verticesOf outlineRules contentsOf runOf bytesOf headOf meets instead bodyLen lenOf blockLen spotAsked windowAsked asked askOf sound reachOf stored inWindow touches hit opens placesOf hitsFrom pageHits metOf metIn hitsOf searchOf
 sample-found = (refl, refl, refl, refl, refl)

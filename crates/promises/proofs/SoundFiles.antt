@@ -5,21 +5,20 @@ use mathlib.Core.Bool.{true}
 use mathlib.Core.List.{List, [], _∷_, _++_}
 use native.Mathlib.Nat.{le-refl, zero-lt-suc}
 use native.Mathlib.Omega.{arith}
-use lib.ListN.{length, getD, take, drop}
-use lib.ListN.{take-append-drop}
+use lib.ListN.{length, getD}
 use borrow.Author.Tests.{le-leb}
 use Rattle.answer.specs.Table as table
-use Rattle.answer.specs.Outcome.{Out, refused, ok, on, inPage}
-use Rattle.answer.proofs.Outcomes.{never, ok-inj, on-ok}
+use Rattle.answer.specs.Outcome.{ok, on, inPage}
+use Rattle.answer.proofs.Outcomes.{ok-inj, on-ok, in-page-ok}
 use Rattle.answer.proofs.Rules.{rule-holds, rule-ok}
+use Rattle.answer.proofs.Both.{both}
 use Rattle.le.specs.Number.{bytesOf}
 use Rattle.le.specs.Block as block
-use Rattle.le.proofs.Numbers.{Bytes}
+use Rattle.le.proofs.Numbers.{Bytes, bytes-part}
 use Rattle.column.specs.Read.{decodeOf, readOf}
 use Rattle.column.proofs.Decoding.{read-decode, scratch-ok}
 use Rattle.extent.specs.Boxes.{patterns}
 use Rattle.types.specs.Parts.{partsRule}
-use Rattle.types.proofs.Both.{both}
 use Rattle.types.proofs.Passed.{parts-passed}
 use Rattle.shape.specs.Outline.{Shape, shapesOf}
 use Rattle.shape.specs.Rules.{finiteRule, ringRule, gridRule, turnRule, boxHolds, boxRule}
@@ -62,7 +61,7 @@ module _ (h : Head) (b : List ℕ) (shapes : List Shape) (few : h .v ≤ 2048) w
       let y = column-read (yPart h b) (h .v) (p .ys) few (record { column = p .y-column; patterns = p .y-patterns; count = p .y-count; few = few; enough = le-refl (h .v) }) in
       let v : verticesOf h b ≡ ok (record { xs = p .xs; ys = p .ys }) = on-value (decodeOf 64 (xPart h b) (h .v)) _ (p .xs) x ∙ on-value (decodeOf 64 (yPart h b) (h .v)) _ (p .ys) y in
       let r : outlineRules os (p .xs) (p .ys) ≡ ok tt =
-      on-value (finiteRule (p .xs) (p .ys)) _ tt (rule-holds _ table.finite (both _ _ (p .x-finite) (p .y-finite)))
+      on-value (finiteRule (p .xs) (p .ys)) _ tt (rule-holds _ table.finite (both (p .x-finite) (p .y-finite)))
       ∙ on-value (ringRule os) _ tt (rule-holds _ table.ring (p .closed))
       ∙ on-value (gridRule os) _ tt (rule-holds _ table.grid (p .on-grid))
       ∙ rule-holds _ table.turn (p .turned) in
@@ -123,26 +122,16 @@ bytes-right : (a b : List ℕ) → Bytes (a ++ b) → Bytes b
 bytes-right [] b h = h
 bytes-right (x ∷ a) b h = bytes-right a b (λ j. h (suc j))
 
-bytes-part : (n at : ℕ) (b : List ℕ) → Bytes b → Bytes (take n (drop at b))
-bytes-part n at b h =
-    let d : Bytes (drop at b) = bytes-right (take at b) (drop at b) (subst Bytes (sym (take-append-drop at b)) h) in
-    bytes-left (take n (drop at b)) (drop n (drop at b)) (subst Bytes (sym (take-append-drop n (drop at b))) d)
-
 module _ (h : Head) (b : List ℕ) (y : Bytes b) where
   x-bytes : Bytes (xPart h b)
   unfolding xPart
-  x-bytes = bytes-part (h .cx) (h .layout .columns) b y
+  x-bytes = bytes-part b (h .layout .columns) (h .cx) y
 
   y-bytes : Bytes (yPart h b)
   unfolding yPart
-  y-bytes = bytes-part (h .cy) (h .layout .columns + h .cx) b y
+  y-bytes = bytes-part b (h .layout .columns + h .cx) (h .cy) y
 
 -- ---- the pages
-
-in-page-ok : {A : Type 0} (k : ℕ) (o : Out A) (a : A) → inPage k o ≡ ok a → o ≡ ok a
-unfolding inPage
-in-page-ok k (refused w) a e = absurd (never e)
-in-page-ok k (ok b) a e = e
 
 few-in : (p : Page) → headOf 1 (p .body) ≡ ok (p .head) → p .head .v ≤ 2048
 few-in p e = head-limits 1 (p .body) (p .head) (head-is 1 (p .body) (p .head) e) .vertices

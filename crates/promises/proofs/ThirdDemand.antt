@@ -9,7 +9,7 @@ use native.Mathlib.Nat.{zero-add}
 use native.Mathlib.Omega.{arith}
 use lib.ListN.{length, drop}
 use Rattle.answer.specs.Outcome.{ok}
-use Rattle.extent.proofs.Tests.{not-true}
+use Rattle.answer.proofs.Both.{not-true}
 use Rattle.query.specs.declared.ask.Ask.{Ask}
 use Rattle.query.specs.declared.ask.Query.the-variants.{Everything}
 use Rattle.query.specs.Ask.{sound, hit}

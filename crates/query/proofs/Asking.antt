@@ -6,8 +6,8 @@ use mathlib.Core.List.{List, [], _∷_}
 use Prim.Native.Nat.{ℕ, zero, suc, _-_, _≤_, _<_, min}
 use native.Mathlib.Omega.{arith}
 use lib.ListN.{length, take, drop, length-take, length-drop}
+use Rattle.answer.proofs.Both.{not-true, no-both}
 use Rattle.extent.specs.Boxes.{Bounds, sameBox, meets, boxOf}
-use Rattle.extent.proofs.Tests.{not-true, no-both}
 use Rattle.extent.proofs.Boxed.{Covers, covers-part}
 use Rattle.extent.proofs.Meeting.{covers-meets, meets-sym}
 use Rattle.extent.proofs.Sames.{same-meets}

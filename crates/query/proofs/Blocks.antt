@@ -14,13 +14,14 @@ use Rattle.answer.specs.Table.{query}
 use Rattle.answer.specs.Refusal.{because}
 use Rattle.answer.specs.Outcome.{Out, refused, ok, on, need}
 use Rattle.answer.proofs.Outcomes.{never, ok-inj, refused-inj, met, unmet}
+use Rattle.answer.proofs.Both.{and-false}
 use Rattle.le.specs.declared.block.Block.{Block}
 use Rattle.le.specs.Number.{numberAt}
 use Rattle.le.specs.Block.{blockAt}
 use Rattle.extent.specs.declared.boxes.Box.{Box}
 use Rattle.extent.specs.declared.boxes.Form.the-variants.{Good, Bad}
 use Rattle.extent.specs.Rank.{finite}
-use Rattle.extent.specs.Boxes.{Bounds}
+use Rattle.extent.specs.Boxes.{Bounds, boundsAt}
 use Rattle.extent.specs.Forms.{floatsOf, formOf}
 use Rattle.extent.proofs.Forms.{form-good, form-bad}
 use Rattle.query.specs.declared.ask.Ask.{Ask}
@@ -29,7 +30,7 @@ use Rattle.query.specs.declared.block.BlockLen.{BlockLen}
 use Rattle.query.specs.declared.block.BlockLen.the-variants as len
 use Rattle.query.specs.declared.block.AskRead.{AskRead}
 use Rattle.query.specs.declared.block.AskRead.the-variants as read
-use Rattle.query.specs.Block.{instead, bodyLen, lenOf, blockLen, saidLen, spotAsked, windowAsked, boundsAt, asked, askOf, said}
+use Rattle.query.specs.Block.{instead, bodyLen, lenOf, blockLen, saidLen, spotAsked, windowAsked, asked, askOf, said}
 
 -- ---- the body's length
 
@@ -78,11 +79,7 @@ module _ (b : Block) where
 
   pub len-body : bodyLen (b .len) ≡ false → lenOf b ≡ refused (because query)
   unfolding lenOf
-  len-body l = unmet (because query) (ok (6 + b .len)) (and-false (eqb (b .kind) 4) l)
-    where
-      and-false : (t : Bool) {u : Bool} → u ≡ false → (t && u) ≡ false
-      and-false true e = e
-      and-false false e = refl
+  len-body l = unmet (because query) (ok (6 + b .len)) (and-false (eqb (b .kind) 4) (bodyLen (b .len)) l)
 
   pub len-kind : (b .kind ≡ 4 → ⊥) → lenOf b ≡ refused (because query)
   unfolding lenOf

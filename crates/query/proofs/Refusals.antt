@@ -13,8 +13,8 @@ use Rattle.answer.proofs.Outcomes.{never, refused-inj}
 use Rattle.le.specs.Number.{numberAt}
 use Rattle.le.specs.Block.{blockAt}
 use Rattle.extent.specs.Rank.{finite}
-use Rattle.extent.specs.Boxes.{Bounds, goodForm}
-use Rattle.query.specs.Block.{instead, bodyLen, lenOf, blockLen, spotAsked, windowAsked, boundsAt, asked, askOf}
+use Rattle.extent.specs.Boxes.{Bounds, boundsAt, goodForm}
+use Rattle.query.specs.Block.{instead, bodyLen, lenOf, blockLen, spotAsked, windowAsked, asked, askOf}
 
 -- no other refusal
 abbrev pub Only : {A : Type 0} → Out A → Type 0

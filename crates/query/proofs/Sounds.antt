@@ -12,6 +12,7 @@ use Rattle.answer.specs.Table.{query, cut}
 use Rattle.answer.specs.Refusal.{because}
 use Rattle.answer.specs.Outcome.{Out, refused, ok, need}
 use Rattle.answer.proofs.Outcomes.{never, ok-inj, need-ok, on-ok}
+use Rattle.answer.proofs.Both.{both, both-l, both-r}
 use Rattle.le.specs.declared.block.Block.{Block}
 use Rattle.le.specs.Number.{numberAt}
 use Rattle.le.specs.Block.{blockAt}
@@ -19,13 +20,12 @@ use Rattle.le.proofs.Bytes.{number-at-part}
 use Rattle.le.proofs.Blocks as le
 use Rattle.le.proofs.Blocks.{block-fits}
 use Rattle.extent.specs.Rank.{finite}
-use Rattle.extent.specs.Boxes.{Bounds, goodForm}
-use Rattle.extent.proofs.Tests.{both, both-l, both-r}
+use Rattle.extent.specs.Boxes.{Bounds, boundsAt, goodForm}
 use Rattle.extent.proofs.Floats.{float-finite, floats-good}
 use Rattle.query.specs.declared.ask.Ask.{Ask}
 use Rattle.query.specs.declared.ask.Query.the-variants.{Everything}
 use Rattle.query.specs.Ask.{sound}
-use Rattle.query.specs.Block.{instead, bodyLen, lenOf, blockLen, spotAsked, windowAsked, boundsAt, asked, askOf}
+use Rattle.query.specs.Block.{instead, bodyLen, lenOf, blockLen, spotAsked, windowAsked, asked, askOf}
 use Rattle.query.proofs.Blocks.{len-is, block-found, ask-exactly, body-most}
 
 -- ---- what is asked is sound

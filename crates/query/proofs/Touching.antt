@@ -6,10 +6,10 @@ use Prim.Native.Nat.{ℕ, zero, suc, _≤_, _<_}
 use native.Mathlib.Omega.{arith}
 use lib.ListN.{length}
 use lib.Ieee.{Float}
+use Rattle.answer.proofs.Both.{both-l, both-r}
 use Rattle.extent.specs.Rank.{finite}
 use Rattle.extent.specs.Boxes.{Bounds, FiniteBox, bitsOf, patterns, goodForm, meets, spotOf, boxOf}
 use Rattle.extent.specs.declared.boxes.Box.{Box}
-use Rattle.extent.proofs.Tests.{both-l, both-r}
 use Rattle.extent.proofs.Forms.{good-finite}
 use Rattle.query.specs.declared.ask.Query.{Query}
 use Rattle.query.specs.declared.ask.Query.the-variants.{Everything, Spot, Window}

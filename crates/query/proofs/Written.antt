@@ -2,69 +2,55 @@
 use mathlib.Core.Path.{_≡_, refl, sym, ap, ap₂, _∙_}
 use mathlib.Core.Bool.{true}
 use mathlib.Core.List.{List, [], _∷_, _++_}
-use Prim.Native.Nat.{ℕ, zero, suc, _+_, _*_, _%_, _^_, _≤_, _<_}
-use native.Mathlib.Nat.{mod-eq-of-lt, le-of-suc-le-suc}
+use Prim.Native.Nat.{ℕ, _+_, _*_, _^_, _≤_, _<_}
+use native.Mathlib.Nat.{mod-eq-of-lt}
 use native.Mathlib.Omega.{arith}
 use lib.Dec.{T}
 use lib.ListN.{length, getD, length-append}
 use lib.Ieee.{Float, binary64, fits}
 use lib.Ieee.Bits.{ofBits-toBits, toBits-lt}
 use Rattle.answer.specs.Outcome.{ok}
-use Rattle.le.specs.Number.{numberAt, bytesOf}
+use Rattle.le.specs.Number.{numberAt, runOf}
 use Rattle.le.specs.Block.{headOf}
-use Rattle.le.proofs.Bytes.{length-bytesOf, number-at-append, number-at-bytesOf}
+use Rattle.le.proofs.Bytes.{number-at-append}
+use Rattle.le.proofs.Runs.{length-run, run-at}
 use Rattle.le.proofs.Blocks as le
 use Rattle.le.proofs.Blocks.{length-head, head-len, head-kind}
-use Rattle.extent.specs.Boxes.{bitsOf, patterns}
+use Rattle.extent.specs.Boxes.{boundsAt, bitsOf, patterns}
 use Rattle.extent.specs.declared.boxes.Box.{Box}
 use Rattle.extent.proofs.Finite.{four-finite}
 use Rattle.extent.proofs.Forms.{FitsBox, floats-back, form-made, good-finite, good-order}
 use Rattle.query.specs.declared.ask.Query.{Query}
 use Rattle.query.specs.declared.ask.Query.the-variants.{Everything, Spot, Window}
 use Rattle.query.specs.Ask.{sound}
-use Rattle.query.specs.Block.{bodyLen, spotAsked, windowAsked, boundsAt, asked, askOf, words, wordsOf, blockOf}
+use Rattle.query.specs.Block.{bodyLen, spotAsked, windowAsked, asked, askOf, wordsOf, blockOf}
 use Rattle.query.proofs.Touching.{sound-spot, sound-window}
 use Rattle.query.proofs.Blocks.{spot-made, window-made, asked-everything, asked-spot, asked-window}
 use Rattle.query.proofs.Sounds.{Fronts, accepts-ask}
 
--- ---- patterns as bytes
-
-length-words : (xs : List ℕ) → length (words xs) ≡ 8 * length xs
-unfolding words
-length-words [] = refl
-length-words (x ∷ xs) = length-append (bytesOf 8 x) (words xs) ∙ omega (arith, length-bytesOf 8 x, length-words xs)
-
-words-at : (xs : List ℕ) (i : ℕ) → i < length xs → numberAt 8 (words xs) (8 * i) ≡ getD xs i 0 % 2 ^ 64
-unfolding words
-words-at [] i h = absurd (omega arith)
-words-at (x ∷ xs) zero h = number-at-bytesOf 8 x (words xs)
-words-at (x ∷ xs) (suc i) h =
-    let e : 8 * suc i ≡ length (bytesOf 8 x) + 8 * i = omega (arith, length-bytesOf 8 x) in
-    ap (numberAt 8 (bytesOf 8 x ++ words xs)) e ∙ number-at-append 8 (bytesOf 8 x) (words xs) (8 * i) ∙ words-at xs i (le-of-suc-le-suc h)
-
--- the four of a box
+-- the four patterns of a box
 abbrev four : Box → List ℕ
 four b = bitsOf (b .«least_x») ∷ bitsOf (b .«least_y») ∷ bitsOf (b .«greatest_x») ∷ bitsOf (b .«greatest_y») ∷ []
 
 -- ---- a head of kind 4 and patterns
 abbrev whole : List ℕ → List ℕ
-whole xs = headOf (8 * length xs) 4 ++ words xs
+whole xs = headOf (8 * length xs) 4 ++ runOf 8 xs
 
 module _ (xs : List ℕ) where
   length-whole : length (whole xs) ≡ 6 + 8 * length xs
-  length-whole = length-append (headOf (8 * length xs) 4) (words xs) ∙ omega (arith, length-head (8 * length xs) 4, length-words xs)
+  length-whole = length-append (headOf (8 * length xs) 4) (runOf 8 xs) ∙ omega (arith, length-head (8 * length xs) 4, length-run 8 xs)
 
   whole-at : (i : ℕ) → i < length xs → getD xs i 0 < 2 ^ 64 → numberAt 8 (whole xs) (6 + 8 * i) ≡ getD xs i 0
   whole-at i h l =
       let e : 6 + 8 * i ≡ length (headOf (8 * length xs) 4) + 8 * i = omega (arith, length-head (8 * length xs) 4) in
-      ap (numberAt 8 (whole xs)) e ∙ number-at-append 8 (headOf (8 * length xs) 4) (words xs) (8 * i) ∙ words-at xs i h ∙ mod-eq-of-lt l
+      ap (numberAt 8 (whole xs)) e ∙ number-at-append 8 (headOf (8 * length xs) 4) (runOf 8 xs) (8 * i) ∙ run-at 8 xs i h ∙ mod-eq-of-lt l
 
   whole-fronts : length xs ≤ 4 → bodyLen (8 * length xs) ≡ true → Fronts (whole xs) (length (whole xs))
   whole-fronts h b = record {
     block = record { kind = 4; body = 6; len = 8 * length xs };
     found =
-        le.block-found (whole xs) 0 4 (8 * length xs) (sym (head-kind (8 * length xs) 4 (words xs)))
-        (sym (head-len (8 * length xs) 4 (words xs) ∙ mod-eq-of-lt (omega arith))) (omega (arith, length-whole));
+        le.block-found (whole xs) 0 4 (8 * length xs) (sym (head-kind (8 * length xs) 4 (runOf 8 xs)))
+        (sym (head-len (8 * length xs) 4 (runOf 8 xs) ∙ mod-eq-of-lt (omega arith))) (omega (arith, length-whole));
     kind = refl;
     body = b;
     takes = sym length-whole;

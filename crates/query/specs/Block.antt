@@ -11,10 +11,10 @@ use Rattle.answer.specs.Table.{query}
 use Rattle.answer.specs.Refusal.{because}
 use Rattle.answer.specs.Outcome.{Out, refused, ok, need, on}
 use Rattle.le.specs.declared.block.Block.{Block}
-use Rattle.le.specs.Number.{numberAt, bytesOf}
+use Rattle.le.specs.Number.{numberAt, runOf}
 use Rattle.le.specs.Block.{blockAt, headOf}
 use Rattle.extent.specs.Rank.{finite}
-use Rattle.extent.specs.Boxes.{Bounds, bitsOf, goodForm}
+use Rattle.extent.specs.Boxes.{Bounds, boundsAt, bitsOf, goodForm}
 use Rattle.extent.specs.Forms.{floatsOf}
 use Rattle.query.specs.declared.ask.Ask.{Ask}
 use Rattle.query.specs.declared.ask.Query.{Query}
@@ -57,15 +57,6 @@ spotAsked x y = need (finite x && finite y) (because query) (ok (record { query 
 unfoldable pub windowAsked : Bounds → Out Ask
 windowAsked p = need (goodForm p) (because query) (ok (record { query = Window (floatsOf p) }))
 
--- the four patterns of a window's body
-unfoldable pub boundsAt : List ℕ → ℕ → Bounds
-boundsAt s at = record {
-  least-x = numberAt 8 s at;
-  least-y = numberAt 8 s (at + 8);
-  greatest-x = numberAt 8 s (at + 16);
-  greatest-y = numberAt 8 s (at + 24);
-}
-
 -- by its length: everything, a spot, a window
 unfoldable pub asked : List ℕ → Out Ask
 asked s =
@@ -84,17 +75,12 @@ said (read.Refused w) = refused w
 
 -- ---- the block of a query, as bytes
 
--- patterns, eight bytes each
-unfoldable pub words : List ℕ → List ℕ
-words [] = []
-words (x ∷ xs) = bytesOf 8 x ++ words xs
-
 -- a query's patterns, in the order of the body
 unfoldable pub wordsOf : Query → List ℕ
 wordsOf Everything = []
 wordsOf (Spot x y) = bitsOf x ∷ bitsOf y ∷ []
 wordsOf (Window b) = bitsOf (b .«least_x») ∷ bitsOf (b .«least_y») ∷ bitsOf (b .«greatest_x») ∷ bitsOf (b .«greatest_y») ∷ []
 
--- a head of kind 4, and the patterns
+-- a head of kind 4, and the patterns, eight bytes each
 unfoldable pub blockOf : Query → List ℕ
-blockOf q = headOf (8 * length (wordsOf q)) 4 ++ words (wordsOf q)
+blockOf q = headOf (8 * length (wordsOf q)) 4 ++ runOf 8 (wordsOf q)

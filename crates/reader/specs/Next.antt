@@ -13,6 +13,7 @@ use Rattle.entry.specs.Step.{pick}
 use Rattle.entry.specs.Entry.{sizeAt, valueAt}
 use Rattle.column.specs.declared.Position.{Position}
 use Rattle.column.specs.Read.{closed}
+pub use Rattle.column.specs.Filling.{position}
 use Rattle.reader.specs.declared.Answer.{Answer}
 use Rattle.reader.specs.declared.Answer.the-variants.{Value, End, Refused}
 
@@ -20,9 +21,6 @@ use Rattle.reader.specs.declared.Answer.the-variants.{Value, End, Refuse
 pub data Turn : Type 0 where
   value : ℕ → Position → Turn
   end : Turn
-
-abbrev pub position : ℕ → ℕ → ℕ → ℕ → Position
-position at given width last = record { at = at; given = given; width = width; last = last }
 
 -- with none given: the width, and the first pattern
 unfoldable pub firstOf : ℕ → List ℕ → ℕ → Out Turn

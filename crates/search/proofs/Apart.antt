@@ -12,14 +12,14 @@ use Rattle.answer.specs.Outcome.{Out, ok, on}
 use Rattle.answer.proofs.Outcomes.{ok-inj}
 use Rattle.le.specs.Number.{numberAt}
 use Rattle.le.proofs.Bytes.{number-at-part}
-use Rattle.extent.specs.Boxes.{patterns}
+use Rattle.extent.specs.Boxes.{boundsAt, patterns}
 use Rattle.extent.specs.Forms.{floatsOf}
 use Rattle.query.specs.declared.ask.Ask.{Ask}
 use Rattle.query.specs.Ask.{sound, opens}
 use Rattle.frame.specs.declared.head.Head.{Head}
 use Rattle.frame.specs.declared.cursor.Cursor.{Cursor}
 use Rattle.frame.specs.declared.cursor.PageAt.{PageAt}
-use Rattle.frame.specs.Head.{boundsAt, headOf}
+use Rattle.frame.specs.Head.{headOf}
 use Rattle.frame.specs.Frame.{Page, Frame, frameOf}
 use Rattle.frame.proofs.Heads.{head-is}
 use Rattle.frame.proofs.Found.{first-is, page-is}
@@ -39,7 +39,7 @@ number-same k i b c h e =
     let z : 0 + i ≡ i = omega arith in
     ap (numberAt k b) (sym z) ∙ sym (number-at-part k 38 0 i b h) ∙ ap (λ (l : List ℕ). numberAt k l i) e ∙ number-at-part k 38 0 i c h ∙ ap (numberAt k c) z
 
-bounds-same : (b c : List ℕ) → take 38 b ≡ take 38 c → boundsAt b ≡ boundsAt c
+bounds-same : (b c : List ℕ) → take 38 b ≡ take 38 c → boundsAt b 6 ≡ boundsAt c 6
 unfolding boundsAt
 bounds-same b c e =
     let x = number-same 8 6 b c (omega arith) e in

@@ -9,8 +9,8 @@ use lib.Dec.{ltb}
 use lib.ListN.{length, take, drop, length-take, length-drop}
 use lib.Seq.{drop-drop}
 use Rattle.answer.specs.Outcome.{ok}
+use Rattle.answer.proofs.Both.{not-true, no-both}
 use Rattle.extent.specs.Boxes.{Bounds, patterns, sameBox, boxOf}
-use Rattle.extent.proofs.Tests.{not-true, no-both}
 use Rattle.query.specs.declared.ask.Ask.{Ask}
 use Rattle.query.specs.Ask.{hit, opens}
 use Rattle.query.proofs.Asking.{closed-no-hit, hit-none, opens-everything}
@@ -20,8 +20,9 @@ use Rattle.shape.proofs.OnlyIf.{decided}
 use Rattle.frame.specs.declared.head.Head.{Head}
 use Rattle.page.specs.Contents.{typesOf, countsOf, lensOf, contentsOf}
 use Rattle.page.proofs.Vertices.{vertices-long}
+use Rattle.page.proofs.Contained.{contents-contained}
 use Rattle.search.specs.Search.{placesOf, hitsFrom}
-use Rattle.search.proofs.Opened.{contents-contained, shapes-hits}
+use Rattle.search.proofs.Opened.{shapes-hits}
 
 -- outlines none of which is hit: their vertices are parts of xs and ys from j on, and no part is hit
 none-hit : (a : Ask) (xs ys : List ℕ) → ((k n : ℕ) → hit a (take n (drop k xs)) (take n (drop k ys)) ≡ false)

@@ -11,7 +11,7 @@ use Rattle.answer.specs.Table as table
 use Rattle.answer.specs.Refusal.{because}
 use Rattle.answer.specs.Outcome.{ok, inPage}
 use Rattle.answer.specs.Rule.{rule}
-use Rattle.answer.proofs.Outcomes.{ok-inj, need-ok, on-ok}
+use Rattle.answer.proofs.Outcomes.{ok-inj, need-ok, on-ok, in-page-ok}
 use Rattle.answer.proofs.Rules.{rule-holds}
 use Rattle.extent.specs.Boxes.{patterns}
 use Rattle.query.specs.declared.ask.Ask.{Ask}
@@ -20,9 +20,10 @@ use Rattle.shape.specs.Outline.{Outline, Shape}
 use Rattle.frame.specs.Frame.{Page, Frame, frameOf}
 use Rattle.page.specs.Contents.{contentsOf}
 use Rattle.page.proofs.Orders.{on-value}
+use Rattle.page.proofs.Contained.{contents-long}
 use Rattle.file.specs.File.{pagesOf, shapesIn}
 use Rattle.search.specs.Search.{placesOf, hitsFrom, pageHits, metOf, hitsOf, searchOf, countOf}
-use Rattle.search.proofs.Opened.{in-page-ok, contents-contained, shapes-long, page-closed, page-open}
+use Rattle.search.proofs.Opened.{page-closed, page-open}
 use Rattle.search.proofs.Sequence.{met-none, met-order, hits-order}
 use Rattle.search.proofs.Meeting.{met-page}
 use Rattle.search.proofs.Closed.{closed-none}
@@ -55,12 +56,6 @@ none-of a n = refl
 
 -- ---- a page
 
--- as many shapes as its head says
-pub contents-long : (p : Page) (ss : List Shape) → contentsOf (p .head) (p .body) ≡ ok ss → length ss ≡ p .head .g
-contents-long p ss e =
-    let k = contents-contained (p .head) (p .body) ss e in
-    ap length (sym (k .shapes)) ∙ shapes-long (p .head) (p .body) (k .xs) (k .ys) (k .parts)
-
 -- its hits are those of its shapes, opened or not
 pub page-complete : (a : Ask) (k n : ℕ) (p : Page) (ss : List Shape) → inPage k (contentsOf (p .head) (p .body)) ≡ ok ss → pageHits a k n p ≡ ok (hitsFrom a n ss)
 page-complete a k n p ss e = go (opens a (p .head .v) (patterns (p .head .bounds))) refl
@@ -79,7 +74,7 @@ met-complete (p ∷ ps) a k n ss e =
     let y = on-ok (pagesOf (suc k) ps) _ ss (x .2) in
     let here : List Shape = x .0 in
     let rest : List Shape = y .0 in
-    let g : length here ≡ p .head .g = contents-long p here (in-page-ok k (contentsOf (p .head) (p .body)) here (x .1)) in
+    let g : length here ≡ p .head .g = contents-long (p .head) (p .body) here (in-page-ok k (contentsOf (p .head) (p .body)) here (x .1)) in
     met-page a k n p ps (hitsFrom a n here) (page-complete a k n p here (x .1))
     ∙ on-value (metOf a (suc k) (n + p .head .g) ps) _ (hitsFrom a (n + p .head .g) rest) (met-complete ps a (suc k) (n + p .head .g) rest (y .1))
     ∙ ap ok (ap (λ (m : ℕ). hitsFrom a n here ++ hitsFrom a (n + m) rest) (sym g) ∙ sym (hits-append a n here rest) ∙ ap (hitsFrom a n) (ok-inj (y .2)))

@@ -7,7 +7,7 @@ use native.Mathlib.Omega.{arith}
 use borrow.Author.Tests.{eq-eqb, ne-eqb, eqb-true}
 use lib.Dec.{eqb}
 use lib.ListN.{length, drop, length-map}
-use Rattle.extent.proofs.Tests.{not-true, no-both}
+use Rattle.answer.proofs.Both.{not-true, no-both}
 use Rattle.query.specs.declared.ask.Ask.{Ask}
 use Rattle.query.specs.Ask.{hit}
 use Rattle.shape.specs.Outline.{Shape}

@@ -7,7 +7,7 @@ use native.Mathlib.Numerals.{add-one}
 use native.Mathlib.Omega.{arith}
 use borrow.Author.Tests.{eq-eqb, ne-eqb}
 use lib.Dec.{eqb}
-use lib.ListN.{length, set, length-append}
+use lib.ListN.{length, set, length-append, drop-of-length-le}
 use lib.Pow.{shr-shr}
 use lib.Seq.{sets, length-sets}
 use Rattle.le.specs.Number.{field}
@@ -168,11 +168,7 @@ module _ (x : ℕ) (d : List ℕ) (e : List ℕ) (k place : ℕ) (w : Flagging x
     }
 
   pub flagging-done : length (placesIn 0 262144 x) ≤ k → e ≡ sets d 0 (placesIn 0 262144 x)
-  flagging-done h = listing-done d 0 (placesIn 0 262144 x) e k _ (w .listing) (nothing (placesIn place (262144 - place) (x / 2 ^ place)) (omega (arith, h, w .listing .count))) .1
-    where
-      nothing : (l : List ℕ) → length l ≡ 0 → l ≡ []
-      nothing [] z = refl
-      nothing (y ∷ l) z = absurd (omega arith)
+  flagging-done h = listing-done d 0 (placesIn 0 262144 x) e k _ (w .listing) (drop-of-length-le (placesIn place (262144 - place) (x / 2 ^ place)) {i = 0} (omega (arith, h, w .listing .count))) .1
 
 -- what is left of a word gets less
 pub half-less : (y : ℕ) → (y ≡ 0 → ⊥) → y / 2 < y

@@ -1,36 +1,28 @@
 -- A page that is opened: what its contents are, their hits, and how many shapes there are. Assumes nothing.
 use mathlib.Core.Path.{_≡_, refl, sym, ap, _∙_, subst}
 use mathlib.Core.Bool.{Bool, true, false}
-use mathlib.Core.List.{List, [], _∷_, map}
-use Prim.Native.Nat.{ℕ, zero, suc, _+_, _<_, zero-le, suc-le-suc}
+use mathlib.Core.List.{List, []}
+use Prim.Native.Nat.{ℕ, _+_}
 use native.Mathlib.Omega.{arith}
-use lib.ListN.{length, take, drop}
-use lib.Seq.{getD-drop}
-use Rattle.answer.specs.Table as table
+use lib.ListN.{length}
 use Rattle.answer.specs.declared.Refusal.{Refusal}
 use Rattle.answer.specs.Refusal.{onPage}
 use Rattle.answer.specs.Outcome.{Out, refused, ok, on, inPage}
-use Rattle.answer.proofs.Outcomes.{never, ok-inj, refused-inj, on-ok}
+use Rattle.answer.proofs.Outcomes.{never, ok-inj, refused-inj, on-ok, in-page-refused, in-page-value, in-page-ok}
 use Rattle.answer.specs.Rule.{judged, passed}
 use Rattle.answer.specs.declared.Verdict.the-variants as verdict
-use Rattle.answer.proofs.Rules.{rule-ok, refused-passed}
-use Rattle.le.proofs.Numbers.{Bytes}
-use Rattle.le.proofs.Runs.{length-numbers}
+use Rattle.answer.proofs.Rules.{refused-passed}
 use Rattle.extent.specs.Boxes.{patterns}
 use Rattle.query.specs.declared.ask.Ask.{Ask}
 use Rattle.query.specs.Ask.{opens}
-use Rattle.types.specs.Parts.{partsHold, partsRule}
-use Rattle.types.proofs.Agreeing.{agree-even}
-use Rattle.types.proofs.Passed.{parts-passed, hold-agree}
-use Rattle.shape.specs.Outline.{Outline, Shape, outlinesOf, shapesOf}
-use Rattle.shape.specs.Rules.{boxHolds, boxRule}
-use Rattle.shape.proofs.Outlines.{outlines-length, shapes-length}
+use Rattle.types.specs.Parts.{partsHold}
+use Rattle.shape.specs.Outline.{Outline, outlinesOf, shapesOf}
 use Rattle.frame.specs.declared.head.Head.{Head}
 use Rattle.frame.specs.Frame.{Page}
-use Rattle.page.specs.Contents.{registersOf, typesOf, countsOf, lensOf, Vertices, verticesOf, outlineRules, contentsOf}
+use Rattle.page.specs.Contents.{registersOf, typesOf, countsOf, lensOf, contentsOf}
 use Rattle.page.specs.Loaded.{Loaded}
 use Rattle.page.proofs.Orders.{on-refused, on-value}
-use Rattle.page.proofs.Vertices.{vertices-long}
+use Rattle.page.proofs.Contained.{contents-contained, outlines-long, shapes-outlines, loaded-ready}
 use Rattle.search.specs.declared.count.Counted.{Counted}
 use Rattle.search.specs.declared.count.Counted.the-variants.{Hits, Refused}
 use Rattle.search.specs.Ascending.{Ascending, none}
@@ -68,84 +60,14 @@ module _ {o : Out (List ℕ)} {n to : ℕ} {d e : List ℕ} (r : Counted) (m : M
   unfolding saidCount
   meets-hits k q = let x = on-ok o _ k (sym (m .said) ∙ rw q) in (x .0, x .1, sym (ok-inj (x .2)))
 
--- ---- a page of a file
-
-pub in-page-refused : {A : Type 0} {o : Out A} (k : ℕ) (w : Refusal) → o ≡ refused w → inPage k o ≡ refused (onPage k w)
-unfolding inPage
-in-page-refused k w e = rw e
-
-pub in-page-value : {A : Type 0} {o : Out A} (k : ℕ) (a : A) → o ≡ ok a → inPage k o ≡ ok a
-unfolding inPage
-in-page-value k a e = rw e
-
-pub in-page-ok : {A : Type 0} (k : ℕ) (o : Out A) (a : A) → inPage k o ≡ ok a → o ≡ ok a
-unfolding inPage
-in-page-ok k (refused w) a e = absurd (never e)
-in-page-ok k (ok b) a e = e
-
--- ---- the contents of a page
-
--- the shapes of a page that every rule let pass are cut from its lists
-pub record Contained (h : Head) (b : List ℕ) (ss : List Shape) : Type 0 where
-  pub xs : List ℕ
-  pub ys : List ℕ
-  pub vertices : verticesOf h b ≡ ok (record { xs = xs; ys = ys })
-  pub parts : partsHold (typesOf h b) (countsOf h b) (lensOf h b) (h .v) ≡ true
-  pub box : boxHolds (patterns (h .bounds)) xs ys ≡ true
-  pub shapes : shapesOf (registersOf h b) (outlinesOf (typesOf h b) (countsOf h b) (lensOf h b) xs ys) ≡ ss
-
-pub contents-contained : (h : Head) (b : List ℕ) (ss : List Shape) → contentsOf h b ≡ ok ss → Contained h b ss
-unfolding contentsOf boxRule
-contents-contained h b ss e =
-    let p = on-ok (partsRule (typesOf h b) (countsOf h b) (lensOf h b) (h .v)) _ ss e in
-    let v = on-ok (verticesOf h b) _ ss (p .2) in
-    let t : Vertices = v .0 in
-    let o = on-ok (outlineRules (outlinesOf (typesOf h b) (countsOf h b) (lensOf h b) (t .xs) (t .ys)) (t .xs) (t .ys)) _ ss (v .2) in
-    let x = on-ok (boxRule (patterns (h .bounds)) (t .xs) (t .ys)) _ ss (o .2) in
-    record {
-      xs = t .xs;
-      ys = t .ys;
-      vertices = v .1;
-      parts = parts-passed (typesOf h b) (countsOf h b) (lensOf h b) (h .v) (p .0) (p .1);
-      box = rule-ok (boxHolds (patterns (h .bounds)) (t .xs) (t .ys)) table.boxValue (x .0) (x .1);
-      shapes = ok-inj (x .2);
-    }
-
--- without their registers
-outlines-back : (rs : List ℕ) (os : List Outline) → length rs ≡ length os → map (λ (s : Shape). s .outline) (shapesOf rs os) ≡ os
-unfolding shapesOf
-outlines-back [] [] e = refl
-outlines-back [] (o ∷ os) e = absurd (omega arith)
-outlines-back (r ∷ rs) [] e = refl
-outlines-back (r ∷ rs) (o ∷ os) e = ap (λ (l : List Outline). o ∷ l) (outlines-back rs os (omega arith))
-
-module _ (h : Head) (b xs ys : List ℕ) (q : partsHold (typesOf h b) (countsOf h b) (lensOf h b) (h .v) ≡ true) where
-  abbrev os : List Outline
-  os = outlinesOf (typesOf h b) (countsOf h b) (lensOf h b) xs ys
-
-  pub counts-long : length (countsOf h b) ≡ h .g
-  unfolding countsOf
-  counts-long = length-numbers 2 (h .g) b (h .layout .counts)
-
-  registers-long : length (registersOf h b) ≡ h .g
-  unfolding registersOf
-  registers-long = length-numbers 4 (h .g) b (h .layout .registers)
-
-  -- as many as the head says
-  pub outlines-long : length (outlinesOf (typesOf h b) (countsOf h b) (lensOf h b) xs ys) ≡ h .g
-  outlines-long =
-      let e = agree-even (typesOf h b) (countsOf h b) (lensOf h b) (hold-agree (typesOf h b) (countsOf h b) (lensOf h b) (h .v) q) in
-      outlines-length (typesOf h b) (countsOf h b) (lensOf h b) xs ys e ∙ e ∙ counts-long
-
-  pub shapes-long : length (shapesOf (registersOf h b) os) ≡ h .g
-  shapes-long = shapes-length (registersOf h b) os (registers-long ∙ sym outlines-long) ∙ outlines-long
-
-  -- their hits
-  pub shapes-hits : (a : Ask) (n : ℕ) → hitsFrom a n (shapesOf (registersOf h b) os) ≡ placesOf a n os
-  unfolding hitsFrom
-  shapes-hits a n = ap (placesOf a n) (outlines-back (registersOf h b) os (registers-long ∙ sym outlines-long))
-
 -- ---- the hits of a page
+
+-- those of its shapes are those of their outlines
+pub shapes-hits : (h : Head) (b xs ys : List ℕ) → partsHold (typesOf h b) (countsOf h b) (lensOf h b) (h .v) ≡ true → (a : Ask) (n : ℕ)
+    → hitsFrom a n (shapesOf (registersOf h b) (outlinesOf (typesOf h b) (countsOf h b) (lensOf h b) xs ys))
+    ≡ placesOf a n (outlinesOf (typesOf h b) (countsOf h b) (lensOf h b) xs ys)
+unfolding hitsFrom
+shapes-hits h b xs ys q a n = ap (placesOf a n) (shapes-outlines h b xs ys q)
 
 module _ (a : Ask) (k n : ℕ) (p : Page) where
   pub page-closed : opens a (p .head .v) (patterns (p .head .bounds)) ≡ false → pageHits a k n p ≡ ok []
@@ -184,14 +106,6 @@ module _ (a : Ask) (k n : ℕ) (h : Head) (b : List ℕ) where
       (on-refused (inPage k (contentsOf h b)) _ (onPage k w) (in-page-refused k w (refused-passed (contentsOf h b) w q)))
 
 module _ (h : Head) (b counts lens xs ys : List ℕ) (y : Loaded h b counts lens xs ys) (types : List ℕ) (t : types ≡ typesOf h b) where
-  -- what asking the shapes counts on
-  pub loaded-ready : (length types ≡ h .g) × (partsHold types counts lens (length xs) ≡ true) × (length ys ≡ length xs)
-  loaded-ready =
-      let v = vertices-long h b xs ys (y .vertices) in
-      let q : partsHold types counts lens (length xs) ≡ true = rw (t, v .0) (y .parts) in
-      let e = agree-even types counts lens (hold-agree types counts lens (length xs) q) in
-      (e ∙ ap length (y .counts-are) ∙ counts-long h b xs ys (rw (← y .counts-are, ← y .lens-are) (y .parts)), q, v .1 ∙ sym (v .0))
-
   pub contents-met : (a : Ask) (k n : ℕ) {d e : List ℕ} (r : ℕ) → r ≡ length (placesOf a n (outlinesOf types counts lens xs ys))
       → Adds d e n (n + length types) (bitsOf (placesOf a n (outlinesOf types counts lens xs ys)))
       → Meets (on (inPage k (contentsOf h b)) (λ here. ok (hitsFrom a n here))) n (n + h .g) (Hits r) d e
@@ -200,19 +114,7 @@ module _ (h : Head) (b counts lens xs ys : List ℕ) (y : Loaded h b counts lens
       let z : hitsFrom a n ss ≡ placesOf a n (outlinesOf types counts lens xs ys) = rw (t, y .counts-are, y .lens-are) (shapes-hits h b xs ys (rw (← y .counts-are, ← y .lens-are) (y .parts)) a n) in
       let o : on (inPage k (contentsOf h b)) (λ here. ok (hitsFrom a n here)) ≡ ok (placesOf a n (outlinesOf types counts lens xs ys)) = on-value (inPage k (contentsOf h b)) _ ss (in-page-value k ss (y .shapes)) ∙ ap ok z in
       meets-ok r (placesOf a n (outlinesOf types counts lens xs ys)) o c
-      (subst (λ (m : ℕ). Adds d e n (n + m) (bitsOf (placesOf a n (outlinesOf types counts lens xs ys)))) (loaded-ready .0) f)
-
--- ---- a page that is found in a file
-
--- a part of bytes is bytes
-pub bytes-part : (s : List ℕ) (at len : ℕ) → Bytes s → Bytes (take len (drop at s))
-bytes-part s at len h j = bytes-take len (drop at s) (λ i. subst (λ (x : ℕ). x < 256) (sym (getD-drop at s i 0)) (h (at + i))) j
-  where
-    bytes-take : (k : ℕ) (l : List ℕ) → Bytes l → Bytes (take k l)
-    bytes-take zero l h j = suc-le-suc zero-le
-    bytes-take (suc k) [] h j = h j
-    bytes-take (suc k) (x ∷ l) h zero = h 0
-    bytes-take (suc k) (x ∷ l) h (suc j) = bytes-take k l (λ i. h (suc i)) j
+      (subst (λ (m : ℕ). Adds d e n (n + m) (bitsOf (placesOf a n (outlinesOf types counts lens xs ys)))) (loaded-ready h b counts lens xs ys y types t .0) f)
 
 -- what is known of a page that is not opened
 pub page-none : {d : List ℕ} (a : Ask) (k n to : ℕ) (p : Page) → opens a (p .head .v) (patterns (p .head .bounds)) ≡ false → Meets (pageHits a k n p) n to (Hits 0) d d

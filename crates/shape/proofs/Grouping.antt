@@ -3,8 +3,8 @@
 use mathlib.Core.Path.{_≡_, refl, sym, ap, _∙_}
 use mathlib.Core.Bool.{Bool, true, false, not}
 use mathlib.Core.List.{List, [], _∷_, _++_}
+use Rattle.answer.proofs.Both.{both}
 use Rattle.types.specs.Every.{allOf}
-use Rattle.types.proofs.Both.{both}
 use Rattle.types.proofs.Alls.{all-none, all-cons}
 use Rattle.shape.specs.Outline.{Part}
 use Rattle.shape.specs.Rules.{firstClockwise}
@@ -39,7 +39,7 @@ before-holes (p ∷ ps) = one (opens p) refl (before-holes ps)
   where
     one : (t : Bool) → opens p ≡ t → allOf isHole (grouped ps .before) ≡ true → allOf isHole (placed t p (grouped ps) .before) ≡ true
     one true e h = all-none isHole
-    one false e h = all-cons isHole p (grouped ps .before) ∙ both (isHole p) (allOf isHole (grouped ps .before)) (unfold isHole in ap not e) h
+    one false e h = all-cons isHole p (grouped ps .before) ∙ both {a = isHole p} (unfold isHole in ap not e) h
 
 -- each polygon is opened by its shell, and by none of its holes
 pub polygons-well-made : (ps : List Part) → allOf wellMade (polygonsOf ps) ≡ true
@@ -50,5 +50,5 @@ polygons-well-made (p ∷ ps) = one (opens p) refl (polygons-well-made ps)
     one : (t : Bool) → opens p ≡ t → allOf wellMade (grouped ps .polygons) ≡ true → allOf wellMade (placed t p (grouped ps) .polygons) ≡ true
     one true e h =
         all-cons wellMade (record { shell = p; holes = grouped ps .before }) (grouped ps .polygons)
-        ∙ both (wellMade (record { shell = p; holes = grouped ps .before })) (allOf wellMade (grouped ps .polygons)) (unfold wellMade in both (opens p) (allOf isHole (grouped ps .before)) e (before-holes ps)) h
+        ∙ both {a = wellMade (record { shell = p; holes = grouped ps .before })} (unfold wellMade in both e (before-holes ps)) h
     one false e h = h

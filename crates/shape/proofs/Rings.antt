@@ -7,7 +7,8 @@ use native.Mathlib.Omega.{arith}
 use borrow.Author.Tests.{eq-eqb, ne-eqb}
 use lib.Dec.{eqb}
 use lib.ListN.{length, getD}
-use Rattle.types.proofs.Both.{both, first-fails, then}
+use Rattle.answer.proofs.Both.{both}
+use Rattle.types.proofs.Both.{first-fails, then}
 use Rattle.shape.specs.Outline.{partWith}
 use Rattle.shape.specs.Rules.{endsMeet, closedRing}
 
@@ -20,7 +21,7 @@ ends-none (a ∷ l) h = absurd (omega arith)
 module _ (xs ys : List ℕ) (same : length ys ≡ length xs) where
   pub ring-none : length xs ≡ 0 → true ≡ closedRing (partWith xs ys)
   unfolding closedRing
-  ring-none h = sym (both (endsMeet xs) (endsMeet ys) (ends-none xs h) (ends-none ys (same ∙ h)))
+  ring-none h = sym (both (ends-none xs h) (ends-none ys (same ∙ h)))
 
   -- the first and the last x are the same, and the y decide
   pub ring-x : getD xs 0 0 ≡ getD xs (length xs - 1) 0 → eqb (getD ys 0 0) (getD ys (length xs - 1) 0) ≡ closedRing (partWith xs ys)

@@ -1,6 +1,6 @@
 -- Laws of the three rules that go shape by shape. Assumes nothing.
 use mathlib.Core.Path.{_≡_, refl, sym, ap, _∙_}
-use mathlib.Core.Bool.{Bool, true, _&&_, not}
+use mathlib.Core.Bool.{Bool, true, not}
 use mathlib.Core.List.{List, [], _∷_}
 use Prim.Native.Nat.{ℕ, _≤_, _<_}
 use native.Mathlib.Omega.{arith}
@@ -9,9 +9,9 @@ use lib.Dec.{leb, eqb}
 use lib.ListN.{length, getD, List·getD-eq-default, take, drop, length-take, length-drop}
 use Rattle.answer.specs.Table as table
 use Rattle.answer.specs.Rule.{rule}
+use Rattle.answer.proofs.Both.{both, both-l, both-r}
 use Rattle.types.specs.Every.{allOf}
 use Rattle.types.specs.Types.{empty, rows, rowOf}
-use Rattle.types.proofs.Both.{both, both-l, both-r}
 use Rattle.shape.specs.declared.which.Which.{Which}
 use Rattle.shape.specs.declared.which.Which.the-variants.{Ring, Grid, Turn}
 use Rattle.shape.specs.Outline.{Outline, verticesOf, outlineWith, outlinesOf}
@@ -61,7 +61,7 @@ ready-turns (t ∷ ts) (c ∷ cs) lens xs ys h e =
     let o = outlineWith t (take c lens) (take n xs) (take n ys) in
     let os = outlinesOf ts cs (drop c lens) (drop n xs) (drop n ys) in
     let few = le-leb (length (take n xs)) 2048 (omega (arith, length-take n xs)) in
-    both (onGridShape o && leb (length (take n xs)) 2048) (allOf (readyFor Turn) os) (both (onGridShape o) (leb (length (take n xs)) 2048) (both-l (onGridShape o) (allOf onGridShape os) e) few)
+    both (both (both-l (onGridShape o) (allOf onGridShape os) e) few)
     (ready-turns ts cs (drop c lens) (drop n xs) (drop n ys) (omega (arith, length-drop n xs)) (both-r (onGridShape o) (allOf onGridShape os) e))
 
 -- ---- types of which a rule says nothing
@@ -98,7 +98,7 @@ all-spared w (t ∷ ts) [] lens xs ys e = refl
 all-spared w (t ∷ ts) (c ∷ cs) lens xs ys e =
     let n = verticesOf c lens in
     let o = outlineWith t (take c lens) (take n xs) (take n ys) in
-    both (testOf w o) (allOf (testOf w) (outlinesOf ts cs (drop c lens) (drop n xs) (drop n ys)))
+    both
     (spared w o (both-l (spares w t) (allOf (spares w) ts) e))
     (all-spared w ts cs (drop c lens) (drop n xs) (drop n ys) (both-r (spares w t) (allOf (spares w) ts) e))
 

@@ -10,10 +10,11 @@ use borrow.Author.Tests.{leb-true, ne-eqb}
 use lib.Dec.{leb, eqb, eqb·suc-suc}
 use lib.ListN.{length, getD, take, drop, length-drop, drop-of-length-le}
 use lib.Seq.{drop-cons, drop-drop, take-all}
+use Rattle.answer.proofs.Both.{not-true, both-l, both-r}
 use Rattle.types.specs.declared.rows.Row.{Row}
 use Rattle.types.specs.Types.{rowOf}
 use Rattle.types.specs.Parts.{fits, lengthsFit, rowAgrees, shapeAgrees, partsAgree}
-use Rattle.types.proofs.Both.{both-l, both-r, first-fails, then, fails}
+use Rattle.types.proofs.Both.{first-fails, then}
 
 -- what a row that agrees says
 pub row-parts-there : (r : Row) (c : ℕ) (lens : List ℕ) → rowAgrees r c lens ≡ true → c ≤ length lens
@@ -35,7 +36,7 @@ agree-even (t ∷ ts) [] lens e = absurd (false≢true e)
 agree-even (t ∷ ts) (c ∷ cs) lens e = ap suc (agree-even ts cs (drop c lens) (both-r (shapeAgrees t c lens) (partsAgree ts cs (drop c lens)) e))
 
 pub agree-uneven : (types counts lens : List ℕ) → (length types ≡ length counts → ⊥) → false ≡ partsAgree types counts lens
-agree-uneven types counts lens h = sym (fails (partsAgree types counts lens) (λ (e : partsAgree types counts lens ≡ true). h (agree-even types counts lens e)))
+agree-uneven types counts lens h = sym (not-true (partsAgree types counts lens) (λ (e : partsAgree types counts lens ≡ true). h (agree-even types counts lens e)))
 
 -- ---- the walk
 

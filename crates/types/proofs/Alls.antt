@@ -8,8 +8,9 @@ use native.Mathlib.Numerals.{add-one}
 use native.Mathlib.Omega.{arith}
 use lib.ListN.{length, getD, take, drop, take-append-drop}
 use lib.Seq.{drop-cons, getD-drop}
+use Rattle.answer.proofs.Both.{both, both-l, both-r}
 use Rattle.types.specs.Every.{allOf}
-use Rattle.types.proofs.Both.{both, both-l, both-r, first-fails, then}
+use Rattle.types.proofs.Both.{first-fails, then}
 
 module _ {A : Type 0} (f : A → Bool) where
   -- none, and one more
@@ -41,7 +42,7 @@ module _ {A : Type 0} (f : A → Bool) where
 pub all-imp : {A : Type 0} (f g : A → Bool) (l : List A) → ((a : A) → f a ≡ true → g a ≡ true) → allOf f l ≡ true → allOf g l ≡ true
 unfolding allOf
 all-imp f g [] h e = refl
-all-imp f g (a ∷ l) h e = both (g a) (allOf g l) (h a (both-l (f a) (allOf f l) e)) (all-imp f g l h (both-r (f a) (allOf f l) e))
+all-imp f g (a ∷ l) h e = both (h a (both-l (f a) (allOf f l) e)) (all-imp f g l h (both-r (f a) (allOf f l) e))
 
 -- ---- the walk: a stands at place i
 

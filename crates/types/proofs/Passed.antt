@@ -10,11 +10,11 @@ use lib.ListN.{length, getD, take, drop, length-drop, take-append-drop}
 use Rattle.answer.specs.Table.{parts}
 use Rattle.answer.specs.Outcome.{ok}
 use Rattle.answer.proofs.Rules.{rule-ok}
+use Rattle.answer.proofs.Both.{both, both-l, both-r}
 use Rattle.types.specs.declared.rows.Row.{Row}
 use Rattle.types.specs.Every.{allOf}
 use Rattle.types.specs.Types.{rowOf}
 use Rattle.types.specs.Parts.{total, fits, lengthsFit, rowAgrees, shapeAgrees, partsAgree, partsHold, partsRule}
-use Rattle.types.proofs.Both.{both, both-l, both-r}
 use Rattle.types.proofs.Alls.{all-none, all-at, all-append, all-imp}
 use Rattle.types.proofs.Tabled.{one-vertex}
 
@@ -124,7 +124,7 @@ agree-full (t ∷ ts) (c ∷ cs) lens e =
     let p = parts-cons t c ts cs lens e in
     let own = own-full t c lens (p .first) in
     let others = agree-full ts cs (drop c lens) (p .others) in
-    sym (ap (allOf (leb 1)) (take-append-drop c lens)) ∙ all-append (leb 1) (take c lens) (drop c lens) ∙ both (allOf (leb 1) (take c lens)) (allOf (leb 1) (drop c lens)) own others
+    sym (ap (allOf (leb 1)) (take-append-drop c lens)) ∙ all-append (leb 1) (take c lens) (drop c lens) ∙ both own others
 
 -- so there are at most as many parts as vertices
 full-length : (lens : List ℕ) → allOf (leb 1) lens ≡ true → length lens ≤ total lens

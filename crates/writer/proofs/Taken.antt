@@ -10,7 +10,7 @@ use Rattle.answer.specs.Table as table
 use Rattle.answer.specs.Outcome.{ok}
 use Rattle.answer.proofs.Outcomes.{ok-inj, need-ok, on-ok}
 use Rattle.answer.proofs.Rules.{rule-ok}
-use Rattle.types.proofs.Both.{both-l}
+use Rattle.answer.proofs.Both.{both-l}
 use Rattle.frame.specs.Whole.{endBlock}
 use Rattle.pageblock.specs.Body.{Handed, pageBytes}
 use Rattle.pageblock.proofs.Passing.{Passed}

@@ -1,6 +1,7 @@
 -- `box_in` takes the four patterns where they stand. Assumes nothing.
 use mathlib.Core.Path.{ap, _∙_}
-use Rattle.frame.specs.Head.{boundsAt, formIn}
+use Rattle.extent.specs.Boxes.{boundsAt}
+use Rattle.frame.specs.Head.{formIn}
 use borrow.Author.Needs.{needs}
 use Rattle.frame.proofs.head.box_in.Statement.{statement}
 use Rattle.frame.proofs.head.box_in.Tie as tie

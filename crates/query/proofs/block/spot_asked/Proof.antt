@@ -1,8 +1,8 @@
 -- `query::block::spot_asked` makes the two floats where both patterns are finite. Assumes nothing.
 use mathlib.Core.Path.{_≡_, sym, _∙_}
 use mathlib.Core.Bool.{true, _&&_}
+use Rattle.answer.proofs.Both.{both-l, both-r}
 use Rattle.extent.specs.Rank.{finite}
-use Rattle.extent.proofs.Tests.{both-l, both-r}
 use Rattle.query.specs.Block.{said}
 use Rattle.query.proofs.Blocks.{spot-made, spot-not}
 use borrow.Author.Needs.{needs}

@@ -1,8 +1,8 @@
 -- `query::block::window_asked` reads the four patterns and makes the box where they are of good form. Assumes nothing.
 use mathlib.Core.Path.{_≡_, sym, ap, _∙_}
-use Rattle.extent.specs.Boxes.{Bounds}
+use Rattle.extent.specs.Boxes.{Bounds, boundsAt}
 use Rattle.extent.specs.Forms.{formOf}
-use Rattle.query.specs.Block.{boundsAt, said}
+use Rattle.query.specs.Block.{said}
 use Rattle.query.proofs.Blocks.{window-made, window-not}
 use borrow.Author.Needs.{needs}
 use Rattle.query.proofs.block.window_asked.Statement.{statement}

@@ -2,7 +2,8 @@
 use mathlib.Core.Path.{refl}
 use native.Mathlib.Omega.{arith}
 use Rattle.page.proofs.Loading.{head-stands, types-read}
-use Rattle.search.proofs.Opened.{contents-refused, contents-met, loaded-ready}
+use Rattle.page.proofs.Contained.{loaded-ready}
+use Rattle.search.proofs.Opened.{contents-refused, contents-met}
 use borrow.Author.Needs.{needs}
 use Rattle.search.proofs.pages.contents_hit.Statement.{statement}
 use Rattle.search.proofs.pages.contents_hit.Tie as tie

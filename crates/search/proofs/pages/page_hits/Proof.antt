@@ -3,11 +3,12 @@ use mathlib.Core.Path.{sym, _∙_}
 use native.Mathlib.Nat.{le-trans}
 use native.Mathlib.Omega.{arith}
 use borrow.Author.Tests.{not-true, not-false}
+use Rattle.le.proofs.Numbers.{bytes-part}
 use Rattle.frame.specs.Step.{part}
 use Rattle.frame.specs.Frame.{pageOf}
 use Rattle.page.proofs.Loading.{head-box}
 use Rattle.file.proofs.Opening.{limits-of, part-of, first-of}
-use Rattle.search.proofs.Opened.{bytes-part, page-none, page-open}
+use Rattle.search.proofs.Opened.{page-none, page-open}
 use borrow.Author.Needs.{needs}
 use Rattle.search.proofs.pages.page_hits.Statement.{statement}
 use Rattle.search.proofs.pages.page_hits.Tie as tie

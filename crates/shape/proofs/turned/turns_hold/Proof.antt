@@ -1,6 +1,6 @@
 -- `shape::turned::turns_hold` tests the rings of a MultiPolygon, and of no other shape. Assumes nothing.
 use borrow.Author.Tests.{eq-eqb, ne-eqb}
-use Rattle.types.proofs.Both.{both-l, both-r}
+use Rattle.answer.proofs.Both.{both-l, both-r}
 use Rattle.grid.specs.Grid.{allOnGrid}
 use Rattle.shape.specs.Rules.{onGridShape, turnsHold}
 use Rattle.shape.proofs.OnlyIf.{skipped, decides, decided}
