@@ -30,7 +30,7 @@ abbrev pub turned : {A : Type 0} → Turn → (PageAt → A) → A → A
 turned (page p) f x = f p
 turned end f x = x
 
--- the pages from a cursor to the end, of at most so many blocks
+-- the pages from a cursor to the end, of at most so many blocks; with 1,025 the first line is never reached, since a step refuses a 1,025th page
 unfoldable pub walk : ℕ → List ℕ → Cursor → Out (List Page)
 walk zero s c = refused (onPage (c .pages) (because many))
 walk (suc n) s c =

@@ -66,6 +66,6 @@ endStep s c b =
 unfoldable pub kindStep : List ℕ → Cursor → Block → Out Turn
 kindStep s c b = cond (eqb (b .kind) 2) (pageStep s c b) (cond (eqb (b .kind) 3) (endStep s c b) (refused (because kind)))
 
--- what stands at a cursor. A refusal's page is the number of page blocks passed before it, and is set here alone
+-- what stands at a cursor. A refusal's page is the number of page blocks passed before it, and is set here
 unfoldable pub stepOf : List ℕ → Cursor → Out Turn
 stepOf s c = inPage (c .pages) (on (blockAt s (c .at)) (kindStep s c))

@@ -52,6 +52,7 @@ contents-contained h b ss e =
 
 -- ---- how many there are
 
+-- as many counts and registers
 module _ (h : Head) (b : List ℕ) where
   pub counts-long : length (countsOf h b) ≡ h .g
   unfolding countsOf
@@ -73,6 +74,7 @@ module _ (h : Head) (b xs ys : List ℕ) (q : partsHold (typesOf h b) (countsOf 
   abbrev os : List Outline
   os = outlinesOf (typesOf h b) (countsOf h b) (lensOf h b) xs ys
 
+  -- outlines, and shapes
   pub outlines-long : length (outlinesOf (typesOf h b) (countsOf h b) (lensOf h b) xs ys) ≡ h .g
   outlines-long =
       let e = agree-even (typesOf h b) (countsOf h b) (lensOf h b) (hold-agree (typesOf h b) (countsOf h b) (lensOf h b) (h .v) q) in
@@ -92,7 +94,7 @@ contents-long h b ss e = let c = contents-contained h b ss e in ap length (sym (
 -- ---- as they are loaded
 
 module _ (h : Head) (b counts lens xs ys : List ℕ) (y : Loaded h b counts lens xs ys) (types : List ℕ) (t : types ≡ typesOf h b) where
-  -- what asking the shapes counts on
+  -- what a walk over the shapes counts on
   pub loaded-ready : (length types ≡ h .g) × (partsHold types counts lens (length xs) ≡ true) × (length ys ≡ length xs)
   loaded-ready =
       let v = vertices-long h b xs ys (y .vertices) in

@@ -1,14 +1,15 @@
 -- Demand 3: "The search lists exactly the shapes whose own box meets the query, each once, in file order, for every file the full check accepts, opening only
 -- pages whose stored box meets it. Edges count. 'Everything' also lists empty shapes." A shape's own box is that of its vertices: nothing here speaks of
 -- pages, but for the last law. Nothing is assumed.
-use Prim.Native.Nat.{ℕ, _≤_}
-use mathlib.Core.Path.{_≡_, ap, _∙_}
+use Prim.Native.Nat.{ℕ, suc, _+_, _≤_}
+use mathlib.Core.Path.{_≡_, sym, ap, ap₂, _∙_}
 use mathlib.Core.Bool.{true, false}
 use mathlib.Core.List.{List, [], _∷_}
 use native.Mathlib.Nat.{zero-add}
 use native.Mathlib.Omega.{arith}
-use lib.ListN.{length, drop}
-use Rattle.answer.specs.Outcome.{ok}
+use lib.ListN.{length, length-append, drop}
+use Rattle.answer.specs.Outcome.{ok, inPage}
+use Rattle.answer.proofs.Outcomes.{ok-inj, on-ok, in-page-ok}
 use Rattle.answer.proofs.Both.{not-true}
 use Rattle.query.specs.declared.ask.Ask.{Ask}
 use Rattle.query.specs.declared.ask.Query.the-variants.{Everything}
@@ -16,8 +17,11 @@ use Rattle.query.specs.Ask.{sound, hit}
 use Rattle.query.proofs.Asking.{hit-everything, hit-none}
 use Rattle.shape.specs.Outline.{Shape}
 use Rattle.frame.specs.declared.walk.Totals.{Totals}
-use Rattle.frame.specs.Frame.{Frame, frameOf}
-use Rattle.file.specs.File.{shapesIn}
+use Rattle.frame.specs.Frame as frame
+use Rattle.frame.specs.Frame.{Page, Frame, frameOf}
+use Rattle.page.specs.Contents.{contentsOf}
+use Rattle.page.proofs.Contained.{contents-long}
+use Rattle.file.specs.File.{pagesOf, shapesIn}
 use Rattle.file.specs.Check.{checkOf}
 use Rattle.file.proofs.Checks.{shapes-are, check-accepts}
 use Rattle.search.specs.Search.{hitsFrom, searchOf, countOf}
@@ -28,9 +32,22 @@ use Rattle.search.proofs.Complete.{search-complete, count-complete}
 use Rattle.search.proofs.Listed as listing
 use Rattle.search.proofs.Apart as apart
 
--- a file that the full check accepts has shapes, and so many
-pub accepted-shapes : (s : List ℕ) (t : Totals) → checkOf s ≡ ok t → (ss : List Shape) × (shapesIn s ≡ ok ss)
-accepted-shapes s t e = let a = check-accepts s t e in (a .1, shapes-are s (a .0) (a .2) ∙ a .3)
+-- pages have as many shapes as their heads say
+pages-many : (ps : List Page) (k : ℕ) (ss : List Shape) → pagesOf k ps ≡ ok ss → length ss ≡ frame.shapesOf ps
+unfolding pagesOf frame.shapesOf
+pages-many [] k ss e = ap length (sym (ok-inj e))
+pages-many (p ∷ ps) k ss e =
+    let x = on-ok (inPage k (contentsOf (p .head) (p .body))) _ ss e in
+    let y = on-ok (pagesOf (suc k) ps) _ ss (x .2) in
+    let here = contents-long (p .head) (p .body) (x .0) (in-page-ok k (contentsOf (p .head) (p .body)) (x .0) (x .1)) in
+    let rest = pages-many ps (suc k) (y .0) (y .1) in
+    ap length (sym (ok-inj (y .2))) ∙ length-append (x .0) (y .0) ∙ ap₂ (λ (m n : ℕ). m + n) here rest
+
+-- a file that the full check accepts has shapes, as many as the check says
+pub accepted-shapes : (s : List ℕ) (t : Totals) → checkOf s ≡ ok t → (ss : List Shape) × (shapesIn s ≡ ok ss) × (length ss ≡ t .shapes)
+accepted-shapes s t e =
+    let a = check-accepts s t e in
+    (a .1, shapes-are s (a .0) (a .2) ∙ a .3, pages-many (a .0 .pages) 0 (a .1) (a .3) ∙ ap (λ (x : Totals). x .shapes) (a .4))
 
 module _ (s : List ℕ) (ss : List Shape) (e : shapesIn s ≡ ok ss) (a : Ask) (q : sound (a .query) ≡ true) where
   -- exactly the shapes whose own box meets the query, as a filter over the file's shapes

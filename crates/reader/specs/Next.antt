@@ -33,7 +33,7 @@ firstOf P s n =
     (need (leb (8 + P) (8 * length s)) (because Table.bits)
     (ok (value v (position (8 + P) 1 w v))))))
 
--- with some given: the entry at the place, or the rules of the end. A next place that 64 bits cannot hold is past the bytes too
+-- with some given: the entry at the place, or the rules of the end. A next place that 64 bits cannot hold is refused by 9 as well
 unfoldable pub laterOf : ℕ → List ℕ → ℕ → Position → Out Turn
 laterOf P s n p =
     let next = p .at + sizeAt P (number s) (p .width) (p .at) in

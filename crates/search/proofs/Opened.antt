@@ -1,4 +1,4 @@
--- A page that is opened: what its contents are, their hits, and how many shapes there are. Assumes nothing.
+-- A page that is opened, and one that is not: its hits, and what the walk says of them. Assumes nothing.
 use mathlib.Core.Path.{_≡_, refl, sym, ap, _∙_, subst}
 use mathlib.Core.Bool.{Bool, true, false}
 use mathlib.Core.List.{List, []}

@@ -8,7 +8,7 @@ use lib.Dec.{ltb}
 use lib.ListN.{length, drop, length-take, length-drop}
 use borrow.Author.Tests.{ltb-true, ltb-false}
 use Rattle.answer.specs.Outcome.{ok, inPage}
-use Rattle.answer.proofs.Outcomes.{never, ok-inj, on-ok}
+use Rattle.answer.proofs.Outcomes.{never, ok-inj, on-ok, in-page-ok}
 use Rattle.shape.specs.Outline.{Shape}
 use Rattle.frame.specs.declared.cursor.Cursor.{Cursor}
 use Rattle.frame.specs.declared.cursor.PageAt.{PageAt}
@@ -19,7 +19,7 @@ use Rattle.frame.proofs.Found.{page-is}
 use Rattle.frame.proofs.Ahead.{Ahead, ahead-start, ahead-some}
 use Rattle.page.specs.Contents.{countsOf, lensOf, contentsOf}
 use Rattle.page.proofs.Vertices.{vertices-long}
-use Rattle.search.proofs.Opened.{in-page-ok, contents-contained}
+use Rattle.page.proofs.Contained.{contents-contained}
 use Rattle.fetch.specs.declared.row.Row.{Row}
 use Rattle.fetch.specs.declared.span.Span.{Span}
 use Rattle.fetch.specs.Seek.{Seat, seekIn, seatOf}
