@@ -9,11 +9,16 @@ use lib.ListN.{length}
 use Rattle.answer.specs.declared.Refusal.{Refusal}
 use Rattle.answer.specs.declared.Filled.{Filled}
 use Rattle.answer.specs.declared.Filled.the-variants as filled-is
-use Rattle.answer.specs.Outcome.{Out, refused, filled, answered, Fills}
+use Rattle.answer.specs.Outcome.{Out, refused, ok, on, filled, answered, Fills}
 use Rattle.answer.proofs.Determined.{determined}
 use Rattle.column.specs.Write.{writeOf}
 use Rattle.column.specs.Read.{readOf}
 use Rattle.query.specs.declared.ask.Ask.{Ask}
+use Rattle.shape.specs.Outline.{Shape}
+use Rattle.frame.specs.declared.walk.Framed.{Framed}
+use Rattle.frame.specs.Frame.{frameOf, totalsOf}
+use Rattle.frame.specs.Said.{saidFrame}
+use Rattle.frame.proofs.Walks.{said-frame-one}
 use Rattle.pageblock.specs.Body.{Handed}
 use Rattle.pageblock.specs.Page.{pageBlockOf}
 use Rattle.writer.specs.declared.Writer.{Writer}
@@ -27,7 +32,11 @@ use Rattle.search.specs.declared.count.Counted.{Counted}
 use Rattle.search.specs.Search.{searchOf, countOf, saidCount}
 use Rattle.search.proofs.Services.{said-count-one}
 use Rattle.fetch.specs.declared.fetch.Fetched.{Fetched}
-use Rattle.fetch.specs.Fetch.{Rooms, fetchOf, Fetches}
+use Rattle.fetch.specs.Fetch.{Rooms, fetchOf, answerOf, listOf, Fetches}
+use Rattle.fetch.specs.declared.fetch.Fetched.the-variants as fetched-is
+use Rattle.fetch.specs.declared.row.Row.{Row}
+use Rattle.fetch.specs.Rows.{registersFrom, typesFrom}
+use Rattle.fetch.proofs.Determined as fetched
 use Rattle.fetch.proofs.Determined.{fetch-determined}
 
 -- ---- two runs of a service on the same input
@@ -48,7 +57,10 @@ search-determined a s d = determined
 pub block-determined : (i : Handed) (d : List ℕ) {r r′ : Filled} {e e′ : List ℕ} → Fills (pageBlockOf (length d) i) d r e → Fills (pageBlockOf (length d) i) d r′ e′ → (r ≡ r′) × (e ≡ e′)
 block-determined i d = determined
 
--- the full check, and the count
+-- the frame, the full check, and the count
+pub frame-determined : (s : List ℕ) (r r′ : Framed) → saidFrame r ≡ on (frameOf s) (λ f. ok (totalsOf f)) → saidFrame r′ ≡ on (frameOf s) (λ f. ok (totalsOf f)) → r ≡ r′
+frame-determined s r r′ p q = said-frame-one r r′ (p ∙ sym q)
+
 pub check-determined : (s : List ℕ) (r r′ : Checked) → saidCheck r ≡ checkOf s → saidCheck r′ ≡ checkOf s → r ≡ r′
 check-determined s r r′ p q = said-check-one r r′ (p ∙ sym q)
 
@@ -60,6 +72,12 @@ pub shape-determined : (s : List ℕ) (n : ℕ) (k : Rooms) (dl dx dy : List ℕ
     → Fetches (fetchOf s n k) dl dx dy r el ex ey → Fetches (fetchOf s n k) dl dx dy r′ el′ ex′ ey′ → (r ≡ r′) × (el ≡ el′) × (ex ≡ ex′) × (ey ≡ ey′)
 shape-determined s n k dl dx dy = fetch-determined
 
+-- the rows for a list of places: two rooms, one answer
+pub rows-determined : (o : Out (List Row)) {dr dt : List ℕ} {r r′ : Filled} {er et er′ et′ : List ℕ}
+    → Fills (registersFrom o) dr r er → Fills (typesFrom o) dt r et → Fills (registersFrom o) dr r′ er′ → Fills (typesFrom o) dt r′ et′
+    → (r ≡ r′) × (er ≡ er′) × (et ≡ et′)
+rows-determined = fetched.rows-determined
+
 -- a step of the writer, open, page or close: the answer, the state in it and the buffer
 pub step-determined : {o : Out Added} (st : Writer) (d : List ℕ) {r r′ : Stepped} {e e′ : List ℕ} → Steps o st d r e → Steps o st d r′ e′ → (r ≡ r′) × (e ≡ e′)
 step-determined st d = writer.determined
@@ -70,6 +88,12 @@ step-determined st d = writer.determined
 pub refused-room : {o : Out (List ℕ)} {d : List ℕ} {r : Filled} {e : List ℕ} (w : Refusal) → o ≡ refused w → Fills o d r e → (r ≡ filled-is.Refused w) × (e ≡ d)
 unfolding filled answered
 refused-room {d = d} w h f = (f .answer ∙ ap answered h, f .room ∙ ap (λ (x : Out (List ℕ)). filled x d) h)
+
+-- a fetch's three rooms
+pub refused-fetch : {o : Out Shape} {dl dx dy : List ℕ} {r : Fetched} {el ex ey : List ℕ} (w : Refusal) → o ≡ refused w → Fetches o dl dx dy r el ex ey
+    → (r ≡ fetched-is.Refused w) × (el ≡ dl) × (ex ≡ dx) × (ey ≡ dy)
+unfolding answerOf listOf on filled
+refused-fetch w h f = (f .answer ∙ ap answerOf h, f .lens-room ∙ rw h, f .xs-room ∙ rw h, f .ys-room ∙ rw h)
 
 -- a half-written file: the state, and so the position, as it came, and every byte of the buffer as it was
 pub refused-step : {o : Out Added} {st : Writer} {d : List ℕ} {r : Stepped} {e : List ℕ} (w : Refusal) → o ≡ refused w → Steps o st d r e → (r .writer ≡ st) × (e ≡ d)

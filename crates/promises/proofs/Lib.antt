@@ -10,3 +10,4 @@ pub mod Fetched
 pub mod FirstDemand
 pub mod SecondDemand
 pub mod ThirdDemand
+pub mod Obeyed

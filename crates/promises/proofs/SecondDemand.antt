@@ -2,24 +2,27 @@
 -- Shapes obey the six types and the empty one." The laws over every pattern size are in RoundTrip, LeastSize and Accepted, and those over files in
 -- SoundFiles and Writings; here they stand at 64 bits, together. Nothing is assumed.
 use Prim.Native.Nat.{ℕ, _+_, _*_, _≤_, _<_}
-use mathlib.Core.Path.{_≡_}
-use mathlib.Core.Bool.{true}
+use mathlib.Core.Path.{_≡_, sym, _∙_, subst}
 use mathlib.Core.List.{List}
 use native.Mathlib.Omega.{arith}
 use lib.ListN.{length}
 use Rattle.answer.specs.Outcome.{ok}
+use Rattle.answer.proofs.Outcomes.{ok-inj}
+use Rattle.le.proofs.Numbers.{Bytes}
 use Rattle.entry.proofs.Entries.{Below}
 use Rattle.width.specs.Width.{S, zsOf, widthOf}
 use Rattle.column.specs.Column.{IsColumn, encodeAt, encode}
 use Rattle.column.specs.Write.{writeOf}
 use Rattle.column.specs.Read.{readOf}
-use Rattle.types.specs.Parts.{partsHold}
-use Rattle.page.specs.Contents.{typesOf, countsOf, lensOf}
-use Rattle.frame.specs.declared.head.Head.{Head}
+use Rattle.frame.specs.declared.walk.Totals.{Totals}
 use Rattle.shape.specs.Outline.{Shape}
-use Rattle.promises.specs.SoundFile.{SoundPage}
+use Rattle.file.specs.File.{shapesIn}
+use Rattle.file.specs.Check.{checkOf}
+use Rattle.promises.specs.Obeying.{AllObey}
 use Rattle.promises.proofs.RoundTrip.{reads-column, round-trip-written}
 use Rattle.promises.proofs.LeastSize.{least-size, bytes-most, bytes-least}
+use Rattle.promises.proofs.SoundFiles.{accepted-sound}
+use Rattle.promises.proofs.Obeyed.{sound-obeys}
 
 -- reading what was written gives back each pattern
 pub reads-back : (vs s : List ℕ) (size room : ℕ) → Below 64 vs → writeOf 64 vs size ≡ ok s → length vs ≤ room → readOf 64 s (length vs) room ≡ ok vs
@@ -44,6 +47,8 @@ smallest-width vs = least-size 64 vs .first-of
 pub never-more : (vs : List ℕ) → length (encode 64 vs) ≤ 1 + 8 * length vs
 never-more = bytes-most
 
--- shapes obey the table of types: in a sound page each type's parts and vertices are the table's, and the sums are the page's
-pub obeys-table : (h : Head) (b : List ℕ) (shapes : List Shape) → SoundPage h b shapes → partsHold (typesOf h b) (countsOf h b) (lensOf h b) (h .v) ≡ true
-obeys-table h b shapes k = k .parts
+-- shapes obey the table: every shape of a file that the full check accepts
+pub shapes-obey : (s : List ℕ) (t : Totals) (ss : List Shape) → Bytes s → checkOf s ≡ ok t → shapesIn s ≡ ok ss → AllObey ss
+shapes-obey s t ss b e h =
+    let a = accepted-sound s t b e in
+    subst AllObey (ok-inj (sym (a .3) ∙ h)) (sound-obeys (a .2 .pages))

@@ -3,3 +3,4 @@ pub mod Sample
 pub mod SoundFile
 pub mod Writing
 pub mod Numbers
+pub mod Obeying
