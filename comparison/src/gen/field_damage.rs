@@ -44,7 +44,7 @@ fn counts(rng: &mut Rng, page: &mut Fields) {
 fn box_form(rng: &mut Rng, page: &mut Fields) {
     let which = rng.below(4);
     if page.v == 0 {
-        page.bounds[which] = rng.pick(&[SIGN, 1, 1 << 56, 0xFF, u64::MAX]);
+        page.bounds[which] = rng.pick(&[SIGN, SIGN, 1, 1 << 56, 0xFF, u64::MAX]);
         return;
     }
     if rng.once_in(2) {
@@ -111,7 +111,7 @@ fn one<'a, T>(rng: &mut Rng, list: &'a mut [T]) -> Option<&'a mut T> {
 /// 11: a type over 6, or counts and lengths against the table or the sums.
 fn lists(rng: &mut Rng, page: &mut Fields) {
     let by = rng.pick(&[1, u16::MAX, 2]);
-    match rng.below(6) {
+    match rng.below(7) {
         0 => *one(rng, &mut page.types).unwrap_or(&mut 0) = rng.pick(&[7, 8, 128, 255]),
         1 => *one(rng, &mut page.types).unwrap_or(&mut 0) = rng.pick(&[0, 1, 2, 3, 4, 5, 6]),
         2 => {
@@ -124,6 +124,11 @@ fn lists(rng: &mut Rng, page: &mut Fields) {
             }
         }
         4 => {
+            // A part of no vertices over, which changes no sum.
+            page.lens.push(0);
+            page.p = page.p.wrapping_add(1);
+        }
+        5 => {
             let (a, b) = (rng.below(page.counts.len()), rng.below(page.counts.len()));
             page.counts[a] = page.counts[a].wrapping_add(by);
             page.counts[b] = page.counts[b].wrapping_sub(by);

@@ -7,9 +7,12 @@ use crate::rng::Rng;
 
 /// Coordinates off the grid: halves, one past each end, large, tiny, beside
 /// whole numbers.
-const OFF_GRID: [f64; 11] = [
+const OFF_GRID: [f64; 14] = [
     0.5,
     -0.5,
+    1.5,
+    -2.5,
+    16_777_215.5,
     16_777_217.0,
     -16_777_217.0,
     16_777_216.000_000_004,
