@@ -6,7 +6,7 @@ use Rattle.answer.specs.declared.Refusal.{Refusal}
 use Rattle.answer.specs.declared.Verdict.{Verdict}
 use Rattle.answer.specs.declared.Verdict.the-variants.{Holds, Refused}
 use Rattle.answer.specs.Refusal.{because}
-use Rattle.answer.specs.Outcome.{Out, refused, ok, need, on}
+use Rattle.answer.specs.Outcome.{Out, refused, ok, need, on, inPage}
 use Rattle.answer.specs.Rule.{rule, judged, passed}
 use Rattle.answer.proofs.Outcomes.{never, refused-inj, met, unmet}
 
@@ -52,11 +52,28 @@ pub passed-refused : {A : Type 0} {o : Out A} (w : Refusal) → o ≡ refused w 
 unfolding judged passed on
 passed-refused w e = rw e
 
+-- refused by a number
+pub passed-because : {A : Type 0} {o : Out A} (n : ℕ) (w : Refusal) → w ≡ because n → o ≡ refused (because n) → judged (Refused w) ≡ passed o
+unfolding judged passed on
+passed-because n w h e = rw (e, h)
+
 -- what is made of a value has its verdict
 pub passed-on : {A B : Type 0} (o : Out A) (f : A → B) → passed (on o (λ a. ok (f a))) ≡ passed o
 unfolding passed on
 passed-on (refused w) f = refl
 passed-on (ok a) f = refl
+
+-- a rule decides an outcome where it holds just when the outcome is a value, and is its refusal else
+pub rule-passed : {A : Type 0} (t : Bool) (n : ℕ) (o : Out A) → (t ≡ true → (a : A) × (o ≡ ok a)) → (t ≡ false → o ≡ refused (because n)) → rule t n ≡ passed o
+unfolding rule need passed on
+rule-passed true n o h m = rw (h refl .1)
+rule-passed false n o h m = rw (m refl)
+
+-- met in a page
+pub passed-in-page : {A : Type 0} (k : ℕ) (o : Out A) → passed (inPage k o) ≡ inPage k (passed o)
+unfolding passed on inPage
+passed-in-page k (refused w) = refl
+passed-in-page k (ok a) = refl
 
 -- and back: what a verdict that was handed on tells of the outcome
 pub holds-passed : {A : Type 0} (o : Out A) → judged Holds ≡ passed o → (a : A) × (o ≡ ok a)

@@ -1,6 +1,7 @@
 // What every service answers. A refusal is one value, a number of the table and a page, and is passed on whole; its page is set here alone.
 ghost use mathlib.Core.Path.{_≡_};
 ghost use Rattle.answer.specs.Refusal.{because, onPage};
+ghost use Rattle.answer.specs.Outcome.{inPage};
 ghost use Rattle.answer.specs.Rule.{rule, judged};
 
 pub mod table;
@@ -51,5 +52,15 @@ impl Verdict {
             return Verdict::Holds;
         }
         Verdict::Refused(Refusal::because(number))
+    }
+
+    // The same verdict, met in a page.
+    pub fn on_page(self, page: u32) -> Verdict
+        ensures { λ r. ⌜ judged r ≡ inPage page (judged self) ⌝ }
+    {
+        match self {
+            Verdict::Holds => Verdict::Holds,
+            Verdict::Refused(w) => Verdict::Refused(w.on_page(page)),
+        }
     }
 }

@@ -10,15 +10,12 @@ use Rattle.answer.specs.declared.Refusal.{Refusal}
 use Rattle.answer.specs.Outcome.{refused, ok, on}
 use Rattle.frame.specs.declared.cursor.Cursor.{Cursor}
 use Rattle.frame.specs.declared.cursor.PageAt.{PageAt}
-use Rattle.frame.specs.declared.cursor.Step.{Step}
-use Rattle.frame.specs.declared.cursor.Step.the-variants as step
 use Rattle.frame.specs.Step.{page, end, firstOf, stepOf}
 use Rattle.frame.specs.Frame.{Page, Frame, pageOf, frameOf}
-use Rattle.frame.specs.Said.{saidStep}
-use Rattle.frame.proofs.Steps.{page-said, end-said, refusal-said}
 use Rattle.frame.proofs.Found.{first-is, Paged, page-is}
 use Rattle.frame.proofs.Walks.{pages-on, shapes-on}
-use Rattle.frame.proofs.Ahead.{Ahead, ahead-first, ahead-never, ahead-end, ahead-page, ahead-fewer}
+use Rattle.frame.specs.Ahead.{Ahead}
+use Rattle.frame.proofs.Ahead.{ahead-first, ahead-end, ahead-page, ahead-fewer}
 use Rattle.page.proofs.Orders.{on-refused, on-value}
 use Rattle.fetch.specs.declared.seek.SeatAt.{SeatAt}
 use Rattle.fetch.specs.declared.seek.Sought.{Sought}
@@ -83,51 +80,41 @@ onward-first s f c e d =
       z,
     )
 
-module _ (s : List ℕ) (place : ℕ) (c : Cursor) (o : Onward s c) (h : c .shapes ≤ place) (r : Step) (f : saidStep r ≡ stepOf s c) where
-  -- no step is refused
-  pub onward-never : {A : Type 0} (w : Refusal) → r ≡ step.Refused w → A
-  onward-never w e = absurd (ahead-never s c (o .pages) (o .ahead) w (refusal-said s c r f w e))
-
+module _ (s : List ℕ) (place : ℕ) (c : Cursor) (o : Onward s c) (h : c .shapes ≤ place) where
   -- at the end there is no shape at that place
-  pub onward-end : r ≡ step.End → Seeks s place (Refused (because table.place))
+  pub onward-end : stepOf s c ≡ ok end → Seeks s place (Refused (because table.place))
   onward-end e =
-      let z : o .pages ≡ [] = ahead-end s c (o .pages) (o .ahead) (end-said s c r f e) in
+      let z : o .pages ≡ [] = ahead-end s c (o .pages) (o .ahead) e in
       seeks-refused s place (because table.place)
       (o .same place h ∙ ap (seekIn (c .pages) (place - c .shapes)) z ∙ seek-none (c .pages) (place - c .shapes))
 
-  module _ (p : PageAt) (e : r ≡ step.Page p) where
-    here : stepOf s c ≡ ok (page p)
-    here = page-said s c r f p e
-
+  module _ (p : PageAt) (here : stepOf s c ≡ ok (page p)) where
     rest : (qs : List Page) × (o .pages ≡ pageOf s p ∷ qs) × Ahead s (p .next) qs
     rest = ahead-page s c (o .pages) (o .ahead) p here
 
     pub onward-fewer : 1025 - p .next .pages < 1025 - c .pages
     onward-fewer = ahead-fewer s c (o .pages) (o .ahead) p here
 
+    shapes : p .next .shapes ≡ c .shapes + p .head .g
+    shapes = shapes-on s c (o .ahead .within) p (page-is s c p here)
+
     -- the place lies in this page
-    pub onward-here : place - c .shapes < p .head .g → Seeks s place (At (record { at = c; page = p; index = place - c .shapes }))
+    pub onward-here : place < p .next .shapes → Seeks s place (At (record { at = c; page = p; index = place - c .shapes }))
     onward-here l = record { said = said-seat s mine ∙ sym seat; seat = λ t q. placed t q }
       where
         mine : SeatAt
         mine = record { at = c; page = p; index = place - c .shapes }
 
         seat : seatOf s place ≡ ok (seatAt s mine)
-        seat = o .same place h ∙ ap (seekIn (c .pages) (place - c .shapes)) (rest .1) ∙ seek-here (c .pages) (place - c .shapes) (pageOf s p) (rest .0) l
+        seat = o .same place h ∙ ap (seekIn (c .pages) (place - c .shapes)) (rest .1) ∙ seek-here (c .pages) (place - c .shapes) (pageOf s p) (rest .0) (omega (arith, shapes))
 
         own : Seated s place mine
-        own = record { onward = o; found = here; within = l; there = omega arith }
+        own = record { onward = o; found = here; within = omega (arith, shapes); there = omega arith }
 
         placed : (t : SeatAt) → At mine ≡ At t → Seated s place t
         placed t q = let z : mine ≡ t = cc in rw (← z) own
 
     -- or behind it
-    shapes : p .next .shapes ≡ c .shapes + p .head .g
-    shapes = shapes-on s c (o .ahead .within) p (page-is s c p here)
-
-    pub onward-below : p .head .g ≤ place - c .shapes → p .next .shapes ≤ place
-    onward-below l = omega (arith, shapes)
-
     pub onward-more : Onward s (p .next)
     onward-more = record { pages = rest .0; ahead = rest .2; same = λ n b. later n b }
       where

@@ -6,7 +6,7 @@ use Rattle.answer.specs.Outcome.{ok}
 use Rattle.frame.specs.declared.cursor.Cursor.{Cursor}
 use Rattle.frame.specs.Step.{page, stepOf}
 use Rattle.frame.specs.Frame.{Page}
-use Rattle.frame.proofs.Ahead.{Ahead}
+use Rattle.frame.specs.Ahead.{Ahead}
 use Rattle.fetch.specs.declared.seek.SeatAt.{SeatAt}
 use Rattle.fetch.specs.declared.seek.Sought.{Sought}
 use Rattle.fetch.specs.declared.seek.Sought.the-variants.{At}

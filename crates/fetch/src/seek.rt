@@ -5,8 +5,9 @@ use answer::Refusal;
 use answer::table::PLACE;
 use frame::cursor::Cursor;
 use frame::cursor::PageAt;
-use frame::cursor::Step;
-use frame::step::step;
+use frame::read::at_end;
+use frame::read::glance;
+use frame::read::page_at;
 
 // A seat: the page of a shape, the cursor at which that page stands, and the shape's index in it.
 pub struct SeatAt {
@@ -27,25 +28,16 @@ pub fn seek(s: &[u8], from: Cursor, place: usize) -> Sought
     ensures { λ r. ⌜ Seeks (now (s .entry)) place r ⌝ }
 {
     let mut c = from;
-    loop {
-        match step(s, c) {
-            Step::Page(p) => {
-                let index = place - c.shapes;
-                if index < p.head.g {
-                    return Sought::At(SeatAt {
-                        at: c,
-                        page: p,
-                        index,
-                    });
-                }
-                c = p.next;
-            }
-            Step::End => {
-                return Sought::Refused(Refusal::because(PLACE));
-            }
-            Step::Refused(w) => {
-                return Sought::Refused(w);
-            }
+    while !at_end(s, c) {
+        let l = glance(s, c);
+        if place < l.next.shapes {
+            return Sought::At(SeatAt {
+                at: c,
+                page: page_at(s, c),
+                index: place - c.shapes,
+            });
         }
+        c = l.next;
     }
+    Sought::Refused(Refusal::because(PLACE))
 }

@@ -14,7 +14,8 @@ use Rattle.frame.specs.declared.walk.Totals.{Totals}
 use Rattle.frame.specs.Step.{firstOf}
 use Rattle.frame.specs.Frame.{Page, Frame, frameOf, totalsOf}
 use Rattle.frame.proofs.Found.{first-is}
-use Rattle.frame.proofs.Ahead.{Ahead, ahead-first}
+use Rattle.frame.specs.Ahead.{Ahead}
+use Rattle.frame.proofs.Ahead.{ahead-first}
 use Rattle.shape.specs.Outline.{Shape}
 use Rattle.page.proofs.Orders.{on-refused, on-value}
 use Rattle.file.specs.declared.check.Checked.{Checked}

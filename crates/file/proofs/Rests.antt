@@ -7,22 +7,18 @@ use Rattle.answer.specs.Outcome.{Out, refused, ok, on, inPage}
 use Rattle.answer.specs.Refusal.{onPage}
 use Rattle.answer.specs.Rule.{judged, passed}
 use Rattle.answer.specs.declared.Refusal.{Refusal}
-use Rattle.answer.specs.declared.Verdict.{Verdict}
 use Rattle.answer.specs.declared.Verdict.the-variants.{Holds, Refused}
 use Rattle.answer.proofs.Rules.{judged-refused, passed-ok, passed-refused, passed-on, holds-passed, refused-passed}
 use Rattle.frame.specs.declared.cursor.Cursor.{Cursor}
 use Rattle.frame.specs.declared.cursor.PageAt.{PageAt}
-use Rattle.frame.specs.declared.cursor.Step.{Step}
-use Rattle.frame.specs.declared.cursor.Step.the-variants as step
 use Rattle.frame.specs.Head.{headOf}
-use Rattle.frame.specs.Said.{saidStep}
-use Rattle.frame.proofs.Steps.{page-said, end-said, refusal-said}
 use lib.ListN.{length}
 use Rattle.frame.specs.Step.{page, end, part, firstOf, stepOf}
 use Rattle.frame.specs.Frame.{Page, Frame, pageOf, walk, frameOf}
 use Rattle.frame.proofs.Found.{page-is}
 use Rattle.frame.proofs.Walks.{pages-on}
-use Rattle.frame.proofs.Ahead.{Ahead, ahead-first, ahead-page, ahead-end, ahead-never, ahead-fewer}
+use Rattle.frame.specs.Ahead.{Ahead}
+use Rattle.frame.proofs.Ahead.{ahead-page, ahead-end, ahead-fewer}
 use Rattle.shape.specs.Outline.{Shape}
 use Rattle.page.specs.Contents.{contentsOf}
 use Rattle.page.proofs.Orders.{on-refused, on-value}
@@ -85,34 +81,27 @@ pub record Going (s : List ℕ) (from c : Cursor) : Type 0 where
   pub ahead : (ps : List Page) × Ahead s c ps
   pub same : passed (restOf s from) ≡ passed (restOf s c)
 
-module _ (s : List ℕ) (from c : Cursor) (g : Going s from c) (r : Step) (f : saidStep r ≡ stepOf s c) where
+module _ (s : List ℕ) (from c : Cursor) (g : Going s from c) where
   -- the end
-  pub going-end : r ≡ step.End → judged Holds ≡ passed (restOf s from)
-  going-end e = rest-end s c (g .ahead .0) (g .ahead .1) (end-said s c r f e) ∙ sym (g .same)
+  pub going-end : stepOf s c ≡ ok end → judged Holds ≡ passed (restOf s from)
+  going-end e = rest-end s c (g .ahead .0) (g .ahead .1) e ∙ sym (g .same)
 
-  -- no refusal of the frame
-  pub going-never : (w : Refusal) (x : Verdict) → r ≡ step.Refused w → judged x ≡ passed (restOf s from)
-  going-never w x e = absurd (ahead-never s c (g .ahead .0) (g .ahead .1) w (refusal-said s c r f w e))
-
-  module _ (p : PageAt) (e : r ≡ step.Page p) where
-    found : stepOf s c ≡ ok (page p)
-    found = page-said s c r f p e
-
+  module _ (p : PageAt) (e : stepOf s c ≡ ok (page p)) where
     pub going-refused : (w : Refusal) → judged (Refused w) ≡ passed (contentsOf (p .head) (part s (p .body) (p .len)))
         → judged (Refused (onPage (c .pages) w)) ≡ passed (restOf s from)
-    going-refused w j = rest-refused s c (g .ahead .0) (g .ahead .1) p found w j ∙ sym (g .same)
+    going-refused w j = rest-refused s c (g .ahead .0) (g .ahead .1) p e w j ∙ sym (g .same)
 
     pub going-on : judged Holds ≡ passed (contentsOf (p .head) (part s (p .body) (p .len))) → Going s from (p .next)
     going-on j =
-        let k = ahead-page s c (g .ahead .0) (g .ahead .1) p found in
-        record { ahead = (k .0, k .2); same = g .same ∙ rest-page s c (g .ahead .0) (g .ahead .1) p found j }
+        let k = ahead-page s c (g .ahead .0) (g .ahead .1) p e in
+        record { ahead = (k .0, k .2); same = g .same ∙ rest-page s c (g .ahead .0) (g .ahead .1) p e j }
 
     pub going-fewer : 1025 - p .next .pages < 1025 - c .pages
-    going-fewer = ahead-fewer s c (g .ahead .0) (g .ahead .1) p found
+    going-fewer = ahead-fewer s c (g .ahead .0) (g .ahead .1) p e
 
     -- the page's body lies in the file, and its head was read from it
     pub going-fits : p .body + p .len ≤ length s
-    going-fits = page-is s c p found .stands .fits
+    going-fits = page-is s c p e .stands .fits
 
     pub going-headed : (edition : ℕ) × (headOf edition (part s (p .body) (p .len)) ≡ ok (p .head))
-    going-headed = (c .edition, page-is s c p found .headed)
+    going-headed = (c .edition, page-is s c p e .headed)

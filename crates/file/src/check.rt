@@ -6,15 +6,15 @@ ghost use lib.ListN.{length};
 ghost use Rattle.answer.specs.Outcome.{ok};
 ghost use Rattle.answer.specs.Rule.{judged, passed};
 ghost use Rattle.frame.specs.Frame.{Page, Frame, frameOf};
-ghost use Rattle.frame.proofs.Ahead.{Ahead};
+ghost use Rattle.frame.specs.Ahead.{Ahead};
 ghost use Rattle.file.specs.File.{restOf, shapesIn};
 ghost use Rattle.file.specs.Check.{checkOf, saidCheck};
 use crate::scratch::page_holds;
 use answer::Refusal;
 use answer::Verdict;
 use frame::cursor::Cursor;
-use frame::cursor::Step;
-use frame::step::step;
+use frame::read::at_end;
+use frame::read::page_at;
 use frame::walk::FirstRead;
 use frame::walk::Framed;
 use frame::walk::Totals;
@@ -40,24 +40,14 @@ fn pages_hold(
     ensures { λ r. ⌜ judged r ≡ passed (restOf (now (s .entry)) from) ⌝ }
 {
     let mut c = from;
-    loop {
-        match step(s, c) {
-            Step::Page(p) => match page_holds(s, p, counts, lens, xs, ys) {
-                Verdict::Holds => {
-                    c = p.next;
-                }
-                Verdict::Refused(w) => {
-                    return Verdict::Refused(w.on_page(c.pages as u32));
-                }
-            },
-            Step::End => {
-                return Verdict::Holds;
-            }
-            Step::Refused(w) => {
-                return Verdict::Refused(w);
-            }
+    while !at_end(s, c) {
+        let p = page_at(s, c);
+        if let Verdict::Refused(w) = page_holds(s, p, counts, lens, xs, ys) {
+            return Verdict::Refused(w.on_page(c.pages as u32));
         }
+        c = p.next;
     }
+    Verdict::Holds
 }
 
 // The contents of each page of a file whose frame has passed. The scratch is cleared once, and serves every page.

@@ -1,6 +1,7 @@
--- A second walk over a file whose frame is sound: what is still to come from a cursor on, as a loop's invariant. Assumes nothing.
+-- Laws of a second walk over a file whose frame is sound, turn by turn: what is still to come from a cursor on. Assumes nothing.
 use Prim.Native.Nat.{ℕ, suc, _-_, _<_}
 use mathlib.Core.Path.{_≡_, refl, sym, ap, subst, _∙_}
+use mathlib.Core.Bool.{true, false}
 use mathlib.Core.List.{List, [], _∷_}
 use native.Mathlib.Omega.{arith}
 use lib.ListN.{length}
@@ -9,15 +10,11 @@ use Rattle.answer.specs.Outcome.{Out, refused, ok}
 use Rattle.answer.proofs.Outcomes.{never, ok-inj, on-ok}
 use Rattle.frame.specs.declared.cursor.Cursor.{Cursor}
 use Rattle.frame.specs.declared.cursor.PageAt.{PageAt}
-use Rattle.frame.specs.Step.{Turn, page, end, firstOf, stepOf}
+use Rattle.frame.specs.Step.{Turn, page, end, firstOf, stepOf, endsAt}
 use Rattle.frame.specs.Frame.{Page, Frame, pageOf, walk, frameOf}
-use Rattle.frame.proofs.Found.{page-is, first-is}
-use Rattle.frame.proofs.Walks.{Within, within-on, fewer-on, fuel, fuel-on, walk-refused, walk-end, walk-page}
-
--- from cursor c on come the pages ps, and then the end
-pub record Ahead (s : List ℕ) (c : Cursor) (ps : List Page) : Type 0 where
-  pub within : Within c
-  pub walked : walk (1025 - c .pages) s c ≡ ok ps
+use Rattle.frame.specs.Ahead.{Ahead}
+use Rattle.frame.proofs.Found.{page-is, first-is, ends-end, ends-page}
+use Rattle.frame.proofs.Walks.{within-on, fewer-on, fuel, fuel-on, walk-refused, walk-end, walk-page}
 
 -- at the start all pages of the frame
 pub ahead-start : (s : List ℕ) (f : Frame) → frameOf s ≡ ok f → (c : Cursor) × (firstOf s ≡ ok c) × (c .edition ≡ f .edition) × Ahead s c (f .pages)
@@ -48,6 +45,10 @@ ahead-first s f c e d =
 pub first-never : (s : List ℕ) (f : Frame) (w : Refusal) → frameOf s ≡ ok f → firstOf s ≡ refused w → ⊥
 first-never s f w e d = never (sym d ∙ ahead-start s f e .1)
 
+-- what is to come is determined
+pub ahead-one : (s : List ℕ) (c : Cursor) (ps qs : List Page) → Ahead s c ps → Ahead s c qs → ps ≡ qs
+ahead-one s c ps qs a b = ok-inj (sym (a .walked) ∙ b .walked)
+
 module _ (s : List ℕ) (c : Cursor) (ps : List Page) (a : Ahead s c ps) where
   now-walked : walk (suc (1024 - c .pages)) s c ≡ ok ps
   now-walked = rw (← fuel c (a .within)) (a .walked)
@@ -55,6 +56,20 @@ module _ (s : List ℕ) (c : Cursor) (ps : List Page) (a : Ahead s c ps) where
   -- a step is never refused
   pub ahead-never : (w : Refusal) → stepOf s c ≡ refused w → ⊥
   ahead-never w e = never (sym (walk-refused s c (1024 - c .pages) w e) ∙ now-walked)
+
+  -- so the block at the cursor has passed: it is the end, or a page
+  pub ahead-turn : (t : Turn) × (stepOf s c ≡ ok t)
+  ahead-turn = go (stepOf s c) refl
+    where
+      go : (x : Out Turn) → stepOf s c ≡ x → (t : Turn) × (stepOf s c ≡ ok t)
+      go (refused w) e = absurd (ahead-never w e)
+      go (ok t) e = (t, e)
+
+  pub ahead-stop : endsAt s c ≡ true → stepOf s c ≡ ok end
+  ahead-stop h = let t = ahead-turn in ends-end s c (t .0) (t .1) h
+
+  pub ahead-go : endsAt s c ≡ false → (p : PageAt) × (stepOf s c ≡ ok (page p))
+  ahead-go h = let t = ahead-turn in ends-page s c (t .0) (t .1) h
 
   -- at the end nothing is to come
   pub ahead-end : stepOf s c ≡ ok end → ps ≡ []

@@ -1,18 +1,14 @@
--- Laws of the box of a page with v vertices: when its form is good, and the box itself then. Assumes nothing.
+-- Laws of the box of a page with v vertices: when its form is good. Assumes nothing.
 use Prim.Native.Nat.{ℕ}
-use mathlib.Core.Path.{_≡_, refl, sym, ap, _∙_}
+use mathlib.Core.Path.{_≡_, refl, ap, _∙_}
 use mathlib.Core.Bool.{Bool, true, false, cond}
 use lib.Dec.{eqb}
 use borrow.Author.Tests.{eq-eqb, ne-eqb, eqb-true}
 use Rattle.extent.specs.Rank.{finite}
 use Rattle.extent.specs.Boxes.{Bounds, FiniteBox, goodForm, spotOf}
-use Rattle.extent.specs.Forms.{floatsOf, formOf}
-use Rattle.extent.specs.declared.boxes.Box.{Box}
-use Rattle.extent.specs.declared.boxes.Form.{Form}
-use Rattle.extent.specs.declared.boxes.Form.the-variants.{Good, Bad}
 use Rattle.extent.proofs.Tests.{all-four}
-use Rattle.extent.proofs.Forms.{spot-good, good-finite, tested-good, tested-bad}
-use Rattle.frame.specs.Head.{allZero, boxOk, formIn}
+use Rattle.extent.proofs.Forms.{spot-good, good-finite}
+use Rattle.frame.specs.Head.{allZero, boxOk}
 
 -- ---- all zero bytes
 
@@ -53,27 +49,3 @@ box-good v p = go (eqb v 0)
 
 pub box-finite : (v : ℕ) (p : Bounds) → boxOk v p ≡ true → FiniteBox p
 box-finite v p e = good-finite p (box-good v p e)
-
--- ---- the three ends of the code
-
-pub form-some : (v : ℕ) (p : Bounds) (r : Form) → r ≡ formOf p → (v ≡ 0 → ⊥) → r ≡ formIn v p
-unfolding formIn formOf
-form-some v p r e n = rw (box-some v p n) e
-
-pub form-zero : (v : ℕ) (p : Bounds) (r : Form) → r ≡ formOf p → v ≡ 0 → allZero p ≡ true → r ≡ formIn v p
-unfolding formIn formOf
-form-zero v p r e n z = e ∙ rw (zero-good p z, box-none v p n, z)
-
-pub form-not-zero : (v : ℕ) (p : Bounds) → v ≡ 0 → allZero p ≡ false → Bad ≡ formIn v p
-unfolding formIn
-form-not-zero v p n z = rw (box-none v p n, z)
-
--- ---- what an answer says
-
-pub form-in-good : (v : ℕ) (p : Bounds) (b : Box) → formIn v p ≡ Good b → (boxOk v p ≡ true) × (floatsOf p ≡ b)
-unfolding formIn
-form-in-good v p b e = let g = tested-good (boxOk v p) p b e in (g .0, sym (g .1))
-
-pub form-in-bad : (v : ℕ) (p : Bounds) → formIn v p ≡ Bad → boxOk v p ≡ false
-unfolding formIn
-form-in-bad v p = tested-bad (boxOk v p) p

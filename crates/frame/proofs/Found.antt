@@ -5,22 +5,22 @@ use mathlib.Core.Bool.{Bool, true, false, cond}
 use mathlib.Core.List.{List}
 use mathlib.Core.Logic.{_⊎_, inl, inr, ⊎-elim}
 use native.Mathlib.Omega.{arith}
-use borrow.Author.Tests.{ltb-true, leb-true, eqb-true}
+use borrow.Author.Tests.{ltb-true, eqb-true, eq-eqb}
 use lib.ListN.{length}
 use lib.Dec.{eqb}
 use Rattle.answer.specs.Table.{kind}
 use Rattle.answer.specs.Refusal.{because}
 use Rattle.answer.specs.Outcome.{refused, ok}
 use Rattle.answer.proofs.Outcomes.{never, ok-inj, need-ok, on-ok, in-page-value, in-page-ok}
-use Rattle.answer.proofs.Both.{both-l, both-r}
+use Rattle.answer.proofs.Both.{both-l, both-r, no-both}
 use Rattle.le.specs.declared.block.Block.{Block}
 use Rattle.le.specs.Number.{numberAt}
 use Rattle.le.specs.Block.{blockAt}
-use Rattle.le.proofs.Blocks.{block-found}
+use Rattle.le.proofs.Blocks.{present-fits, block-found, block-says}
 use Rattle.frame.specs.declared.cursor.Cursor.{Cursor}
 use Rattle.frame.specs.declared.cursor.PageAt.{PageAt}
 use Rattle.frame.specs.Head.{headOf}
-use Rattle.frame.specs.Step.{part, Turn, page, end, past, firstStep, firstOf, pageStep, endStep, kindStep, stepOf}
+use Rattle.frame.specs.Step.{part, Turn, page, end, past, firstStep, firstOf, pageStep, endStep, kindStep, stepOf, endsAt}
 use Rattle.frame.proofs.Heads.{Headed, head-is}
 use Rattle.frame.proofs.Steps.{page-good, end-good, kind-page, kind-end, step-found, first-good, first-found, page-not-end, page-inj}
 
@@ -34,12 +34,10 @@ pub record Stands (s : List ℕ) (at kind body len : ℕ) : Type 0 where
   pub fits : body + len ≤ length s
 
 pub block-is : (s : List ℕ) (at : ℕ) (b : Block) → blockAt s at ≡ ok b → Stands s at (b .kind) (b .body) (b .len)
-unfolding blockAt
 block-is s at b e =
-    let p = need-ok _ _ _ b e in
-    let q = need-ok _ _ _ b (p .1) in
-    subst (λ (x : Block). Stands s at (x .kind) (x .body) (x .len)) (ok-inj (q .1))
-    (record { kind-at = refl; len-at = refl; body-at = refl; fits = leb-true (at + 6 + numberAt 4 s at) (length s) (q .0) })
+    let p = block-says s at b e in
+    subst (λ (x : Block). Stands s at (x .kind) (x .body) (x .len)) (p .1)
+    (record { kind-at = refl; len-at = refl; body-at = refl; fits = present-fits s at (p .0) })
 
 pub is-block : (s : List ℕ) (at kind body len : ℕ) → Stands s at kind body len → blockAt s at ≡ ok (record { kind = kind; body = body; len = len })
 is-block s at kind body len k =
@@ -194,3 +192,32 @@ module _ (s : List ℕ) (c : Cursor) where
       ∙ in-page-value (c .pages) end
       (kind-end s c b not-two refl
       ∙ end-good s c b refl (c .pages) (sym (k .pages-at)) refl (c .shapes) (sym (ap (numberAt 4 s) ten ∙ k .shapes-at)) refl (omega (arith, k .last)))
+
+  -- ---- what a walk asks of a block that has passed
+
+  -- its head is there
+  pub step-there : (t : Turn) → stepOf s c ≡ ok t → c .at + 6 ≤ length s
+  step-there t e =
+      ⊎-elim
+      (λ (k : (p : PageAt) × (t ≡ page p) × Paged s c p). let f = k .2 .stands in omega (arith, f .fits, f .body-at))
+      (λ (k : (t ≡ end) × Ended s c). omega (arith, k .1 .stands .fits))
+      (step-is t e)
+
+  -- the end block stands there, or a page does
+  pub ends-end : (t : Turn) → stepOf s c ≡ ok t → endsAt s c ≡ true → stepOf s c ≡ ok end
+  unfolding endsAt
+  ends-end t e h =
+      ⊎-elim
+      (λ (k : (p : PageAt) × (t ≡ page p) × Paged s c p).
+      let three : numberAt 2 s (c .at + 4) ≡ 3 = eqb-true (numberAt 2 s (c .at + 4)) 3 h in
+      absurd (omega (arith, three, k .2 .stands .kind-at)))
+      (λ (k : (t ≡ end) × Ended s c). e ∙ ap ok (k .0))
+      (step-is t e)
+
+  pub ends-page : (t : Turn) → stepOf s c ≡ ok t → endsAt s c ≡ false → (p : PageAt) × (stepOf s c ≡ ok (page p))
+  unfolding endsAt
+  ends-page t e h =
+      ⊎-elim
+      (λ (k : (p : PageAt) × (t ≡ page p) × Paged s c p). (k .0, e ∙ ap ok (k .1)))
+      (λ (k : (t ≡ end) × Ended s c). absurd (no-both h (eq-eqb (numberAt 2 s (c .at + 4)) 3 (k .1 .stands .kind-at))))
+      (step-is t e)

@@ -1,30 +1,25 @@
 -- Laws of a page's head: one for each way through `headOf`, what a head that was read says, and that this is all. Assumes nothing.
 use Prim.Native.Nat.{ℕ, _+_, _-_, _^_, _≤_, _<_}
-use mathlib.Core.Path.{_≡_, refl, sym, ap, subst, _∙_}
+use mathlib.Core.Path.{_≡_, refl, sym, ap, ap₂, subst, _∙_}
 use mathlib.Core.Bool.{true, false}
 use mathlib.Core.List.{List}
 use native.Mathlib.Omega.{arith}
 use borrow.Author.Tests.{le-leb, lt-leb, eqb-true, eq-eqb, ne-eqb}
 use lib.ListN.{length}
-use Rattle.answer.specs.declared.Refusal.{Refusal}
 use Rattle.answer.specs.Table.{cut, counts, boxForm}
 use Rattle.answer.specs.Refusal.{because}
 use Rattle.answer.specs.Outcome.{refused, ok}
-use Rattle.answer.proofs.Outcomes.{never, ok-inj, refused-inj, met, unmet, need-ok}
+use Rattle.answer.proofs.Outcomes.{ok-inj, met, unmet, need-ok}
 use Rattle.le.specs.Number.{numberAt}
 use Rattle.le.proofs.Numbers.{Bytes, number-at-lt}
 use Rattle.extent.specs.Boxes.{boundsAt, FiniteBox, patterns, goodForm}
 use Rattle.extent.specs.Forms.{floatsOf}
 use Rattle.extent.specs.declared.boxes.Box.{Box}
-use Rattle.extent.specs.declared.boxes.Form.the-variants.{Good}
 use Rattle.extent.proofs.Forms.{Words, floats-patterns}
 use Rattle.frame.specs.declared.layout.Layout.{Layout}
 use Rattle.frame.specs.declared.head.Head.{Head}
-use Rattle.frame.specs.declared.head.HeadRead.{HeadRead}
-use Rattle.frame.specs.declared.head.HeadRead.the-variants as read
 use Rattle.frame.specs.Layout.{layoutOf}
 use Rattle.frame.specs.Head.{countsOk, allZero, boxOk, sizedHead, headOf}
-use Rattle.frame.specs.Said.{saidHead}
 use Rattle.frame.proofs.Layouts.{columns-at, columns-le, sizes-from}
 use Rattle.frame.proofs.Counts.{Limits, counts-limits}
 use Rattle.frame.proofs.Forms.{box-none, box-some, box-finite}
@@ -80,26 +75,6 @@ module _ (edition : ℕ) (b : List ℕ) (g v p : ℕ) (l : Layout) (el : layoutO
           (met (because cut) _ (le-leb (l .columns) (length b) h)
           ∙ met (because cut) _ (eq-eqb (length b) (l .columns + cx + cy) e)
           ∙ met (because boxForm) _ f)
-
--- ---- what is said
-
--- an answer is determined by what it says
-pub said-head-one : (x y : HeadRead) → saidHead x ≡ saidHead y → x ≡ y
-unfolding saidHead
-said-head-one (read.Good a) (read.Good b) e = ap read.Good (ok-inj e)
-said-head-one (read.Good a) (read.Refused w) e = absurd (never (sym e))
-said-head-one (read.Refused w) (read.Good b) e = absurd (never e)
-said-head-one (read.Refused w) (read.Refused x) e = ap read.Refused (refused-inj e)
-
--- what the code read
-module _ (edition : ℕ) (b : List ℕ) (r : HeadRead) where
-  pub head-said : (h : Head) → saidHead r ≡ headOf edition b → r ≡ read.Good h → headOf edition b ≡ ok h
-  unfolding saidHead
-  head-said h f e = sym f ∙ rw e
-
-  pub head-refused : (w : Refusal) → saidHead r ≡ headOf edition b → r ≡ read.Refused w → headOf edition b ≡ refused w
-  unfolding saidHead
-  head-refused w f e = sym f ∙ rw e
 
 -- ---- a head that was read
 
@@ -189,3 +164,39 @@ module _ (edition : ℕ) (b : List ℕ) (h : Head) where
           greatest-x = number-at-lt 8 b 22 y;
           greatest-y = number-at-lt 8 b 30 y;
         }
+
+-- ---- a head that is read by its numbers, where the rules have let it pass
+
+module _ (edition : ℕ) (b : List ℕ) (h : Head) (k : Headed edition b h) (g v p : ℕ) (eg : g ≡ numberAt 2 b 0) (ev : v ≡ numberAt 2 b 2) (ep : p ≡ numberAt 2 b 4) where
+  read-g : h .g ≡ g
+  read-g = k .shapes-at ∙ sym eg
+
+  read-p : h .p ≡ p
+  read-p = k .parts-at ∙ sym ep
+
+  pub read-few : (g ≤ 256) × (p ≤ 2048)
+  read-few = let l = head-limits edition b h k in (omega (arith, l .few, read-g), omega (arith, l .parts, l .vertices, read-p))
+
+  module _ (l : Layout) (el : l ≡ layoutOf edition g p) where
+    read-layout : h .layout ≡ l
+    read-layout = k .laid ∙ ap₂ (layoutOf edition) read-g read-p ∙ sym el
+
+    pub read-sizes : l .sizes + 8 ≤ length b
+    read-sizes =
+        omega (
+          arith,
+          k .exact,
+          ap (λ (x : Layout). x .columns) read-layout,
+          ap (λ (x : Layout). x .columns) el,
+          ap (λ (x : Layout). x .sizes) el,
+          columns-at edition g p,
+        )
+
+    pub read-is : (cx cy : ℕ) (box : Box) → cx ≡ numberAt 4 b (l .sizes) → cy ≡ numberAt 4 b (l .sizes + 4) → box ≡ floatsOf (boundsAt b 6)
+        → h ≡ record { g = g; v = v; p = p; bounds = box; cx = cx; cy = cy; layout = l }
+    read-is cx cy box ex ey eb =
+        let pv : h .v ≡ v = k .vertices-at ∙ sym ev in
+        let px : h .cx ≡ cx = k .x-at ∙ ap (λ (x : Layout). numberAt 4 b (x .sizes)) read-layout ∙ sym ex in
+        let py : h .cy ≡ cy = k .y-at ∙ ap (λ (x : Layout). numberAt 4 b (x .sizes + 4)) read-layout ∙ sym ey in
+        let pb : h .bounds ≡ box = k .boxed ∙ sym eb in
+        λ i. record { g = read-g i; v = pv i; p = read-p i; bounds = pb i; cx = px i; cy = py i; layout = read-layout i }

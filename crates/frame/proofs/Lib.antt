@@ -7,4 +7,5 @@ pub mod Found
 pub mod Walks
 pub mod Ahead
 pub mod Parts
+pub mod Reading
 pub mod Wholes

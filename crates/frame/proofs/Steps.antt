@@ -1,6 +1,7 @@
 -- Laws of a step and of the first block, one for each way through them, and what the code's answers say. Assumes nothing.
 use Prim.Native.Nat.{ℕ, _+_, _-_, _≤_, _<_}
 use mathlib.Core.Path.{_≡_, refl, sym, ap, _∙_}
+use mathlib.Core.Bool.{false}
 use mathlib.Core.List.{List}
 use native.Mathlib.Nat.{add-sub-cancel-left}
 use native.Mathlib.Omega.{arith}
@@ -10,22 +11,23 @@ use Rattle.answer.specs.declared.Refusal.{Refusal}
 use Rattle.answer.specs.Table.{many, cut, kind, counts}
 use Rattle.answer.specs.Refusal.{because}
 use Rattle.answer.specs.Outcome.{Out, refused, ok, on, inPage}
+use Rattle.answer.specs.Rule.{passed}
 use Rattle.answer.proofs.Outcomes.{never, ok-inj, refused-inj, met, unmet}
+use Rattle.answer.proofs.Rules.{passed-on}
 use Rattle.le.specs.declared.block.Block.{Block}
 use Rattle.le.specs.Number.{numberAt}
 use Rattle.le.specs.declared.block.BlockRead.{BlockRead}
 use Rattle.le.specs.declared.block.BlockRead.the-variants as read
-use Rattle.le.specs.Block.{blockAt, said}
+use Rattle.le.specs.Block.{presentAt, blockAt, said}
+use Rattle.le.proofs.Blocks.{block-absent}
 use Rattle.frame.specs.declared.head.Head.{Head}
 use Rattle.frame.specs.declared.cursor.Cursor.{Cursor}
 use Rattle.frame.specs.declared.cursor.PageAt.{PageAt}
-use Rattle.frame.specs.declared.cursor.Step.{Step}
-use Rattle.frame.specs.declared.cursor.Step.the-variants as step
 use Rattle.frame.specs.declared.walk.FirstRead.{FirstRead}
 use Rattle.frame.specs.declared.walk.FirstRead.the-variants as first
 use Rattle.frame.specs.Head.{headOf}
 use Rattle.frame.specs.Step.{part, Turn, page, end, past, firstStep, firstOf, pageStep, endStep, kindStep, stepOf}
-use Rattle.frame.specs.Said.{saidStep, saidFirst}
+use Rattle.frame.specs.Said.{saidFirst}
 
 -- ---- a page block
 
@@ -43,6 +45,11 @@ module _ (s : List ℕ) (c : Cursor) (b : Block) where
         → pageStep s c b ≡ ok (page (record { head = k; body = b .body; len = b .len; next = past c b k }))
     unfolding pageStep on
     page-good k e = met (because many) _ (lt-ltb (c .pages) 1024 h) ∙ rw e
+
+    -- it passes where its head does
+    pub page-passed : passed (pageStep s c b) ≡ passed (headOf (c .edition) (part s (b .body) (b .len)))
+    unfolding pageStep
+    page-passed = ap passed (met (because many) _ (lt-ltb (c .pages) 1024 h)) ∙ passed-on _ _
 
 -- the head of the part that the code takes is that of the body
 pub part-head : (edition : ℕ) (s : List ℕ) (body len : ℕ) → headOf edition (take (body + len - body) (drop body s)) ≡ headOf edition (part s body len)
@@ -112,9 +119,9 @@ module _ (s : List ℕ) (at : ℕ) (r : BlockRead) where
 -- ---- a step
 
 module _ (s : List ℕ) (c : Cursor) where
-  pub step-refused : (w : Refusal) → blockAt s (c .at) ≡ refused w → stepOf s c ≡ inPage (c .pages) (refused w)
+  pub step-absent : presentAt s (c .at) ≡ false → stepOf s c ≡ inPage (c .pages) (refused (because cut))
   unfolding stepOf on
-  step-refused w e = rw e
+  step-absent e = rw (block-absent s (c .at) e)
 
   pub step-found : (b : Block) → blockAt s (c .at) ≡ ok b → stepOf s c ≡ inPage (c .pages) (kindStep s c b)
   unfolding stepOf on
@@ -163,19 +170,6 @@ module _ (s : List ℕ) where
 
 -- ---- what the code was told
 
-module _ (s : List ℕ) (c : Cursor) (r : Step) (f : saidStep r ≡ stepOf s c) where
-  pub page-said : (p : PageAt) → r ≡ step.Page p → stepOf s c ≡ ok (page p)
-  unfolding saidStep
-  page-said p e = sym f ∙ rw e
-
-  pub end-said : r ≡ step.End → stepOf s c ≡ ok end
-  unfolding saidStep
-  end-said e = sym f ∙ rw e
-
-  pub refusal-said : (w : Refusal) → r ≡ step.Refused w → stepOf s c ≡ refused w
-  unfolding saidStep
-  refusal-said w e = sym f ∙ rw e
-
 module _ (s : List ℕ) (r : FirstRead) (f : saidFirst r ≡ firstOf s) where
   pub first-said : (c : Cursor) → r ≡ first.After c → firstOf s ≡ ok c
   unfolding saidFirst
@@ -193,18 +187,6 @@ page-not-end e = let z : _≡_ {A = ℕ} 0 1 = cc in omega arith
 
 pub page-inj : {p q : PageAt} → page p ≡ page q → p ≡ q
 page-inj e = cc
-
-pub said-step-one : (x y : Step) → saidStep x ≡ saidStep y → x ≡ y
-unfolding saidStep
-said-step-one (step.Page p) (step.Page q) e = ap step.Page (page-inj (ok-inj e))
-said-step-one (step.Page p) step.End e = absurd (page-not-end (ok-inj e))
-said-step-one (step.Page p) (step.Refused w) e = absurd (never (sym e))
-said-step-one step.End (step.Page q) e = absurd (page-not-end (ok-inj (sym e)))
-said-step-one step.End step.End e = refl
-said-step-one step.End (step.Refused w) e = absurd (never (sym e))
-said-step-one (step.Refused w) (step.Page q) e = absurd (never e)
-said-step-one (step.Refused w) step.End e = absurd (never e)
-said-step-one (step.Refused w) (step.Refused x) e = ap step.Refused (refused-inj e)
 
 pub said-first-one : (x y : FirstRead) → saidFirst x ≡ saidFirst y → x ≡ y
 unfolding saidFirst

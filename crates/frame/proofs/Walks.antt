@@ -9,8 +9,6 @@ use Rattle.answer.specs.Outcome.{Out, refused, ok, on}
 use Rattle.answer.proofs.Outcomes.{never, ok-inj, refused-inj, on-ok}
 use Rattle.frame.specs.declared.cursor.Cursor.{Cursor}
 use Rattle.frame.specs.declared.cursor.PageAt.{PageAt}
-use Rattle.frame.specs.declared.cursor.Step.{Step}
-use Rattle.frame.specs.declared.cursor.Step.the-variants as step
 use Rattle.frame.specs.declared.walk.FirstRead.{FirstRead}
 use Rattle.frame.specs.declared.walk.FirstRead.the-variants as first
 use Rattle.frame.specs.declared.walk.Framed.{Framed}
@@ -18,9 +16,10 @@ use Rattle.frame.specs.declared.walk.Framed.the-variants as framed
 use Rattle.frame.specs.declared.walk.Totals.{Totals}
 use Rattle.frame.specs.Step.{part, Turn, page, end, firstOf, stepOf}
 use Rattle.frame.specs.Frame.{Page, Frame, pageOf, walk, frameOf, shapesOf, countOf, totalsOf}
-use Rattle.frame.specs.Said.{saidStep, saidFirst, saidFrame}
+use Rattle.frame.specs.Ahead.{Within}
+use Rattle.frame.specs.Said.{saidFirst, saidFrame}
 use Rattle.frame.proofs.Heads.{head-is, head-limits}
-use Rattle.frame.proofs.Steps.{page-said, end-said, refusal-said, first-said, first-refusal-said}
+use Rattle.frame.proofs.Steps.{first-said, first-refusal-said}
 use Rattle.frame.proofs.Found.{first-is, Paged, page-is}
 
 -- ---- one turn of the walk
@@ -39,11 +38,6 @@ module _ (s : List ℕ) (c : Cursor) (n : ℕ) where
   walk-page p e = rw e
 
 -- ---- what a page that was found does to a cursor's counts
-
--- a cursor of the walk: at most 1,024 pages, of at most 256 shapes each, lie before it
-pub record Within (c : Cursor) : Type 0 where
-  pub pages : c .pages ≤ 1024
-  pub shapes : c .shapes ≤ 256 * c .pages
 
 module _ (s : List ℕ) (c : Cursor) (w : Within c) (p : PageAt) (k : Paged s c p) where
   pub pages-on : p .next .pages ≡ c .pages + 1
@@ -125,33 +119,30 @@ count-more s c p (ok ps) a b =
     let n : c .shapes + (p .head .g + shapesOf ps) ≡ p .next .shapes + shapesOf ps = omega (arith, b) in
     λ i. ok (record { pages = m i; shapes = n i })
 
-module _ (s : List ℕ) (from c : Cursor) (w : Walking s from c) (r : Step) (f : saidStep r ≡ stepOf s c) where
-  pub walking-refused : (x : Refusal) → r ≡ step.Refused x → saidFrame (framed.Refused x) ≡ on (walk 1025 s from) (λ ps. ok (countOf ps))
+module _ (s : List ℕ) (from c : Cursor) (w : Walking s from c) where
+  pub walking-refused : (x : Refusal) → stepOf s c ≡ refused x → saidFrame (framed.Refused x) ≡ on (walk 1025 s from) (λ ps. ok (countOf ps))
   unfolding saidFrame on
-  walking-refused x e = sym (w .same ∙ rw (fuel c (w .within), walk-refused s c (1024 - c .pages) x (refusal-said s c r f x e)))
+  walking-refused x e = sym (w .same ∙ rw (fuel c (w .within), walk-refused s c (1024 - c .pages) x e))
 
-  pub walking-end : r ≡ step.End
+  pub walking-end : stepOf s c ≡ ok end
       → saidFrame (framed.Sound (record { pages = c .pages; shapes = c .shapes })) ≡ on (walk 1025 s from) (λ ps. ok (countOf ps))
   unfolding saidFrame on shapesOf
   walking-end e =
       let m : c .pages + 0 ≡ c .pages = omega arith in
       let n : c .shapes + 0 ≡ c .shapes = omega arith in
-      sym (w .same ∙ rw (fuel c (w .within), walk-end s c (1024 - c .pages) (end-said s c r f e)) (λ i. ok (record { pages = m i; shapes = n i })))
+      sym (w .same ∙ rw (fuel c (w .within), walk-end s c (1024 - c .pages) e) (λ i. ok (record { pages = m i; shapes = n i })))
 
-  module _ (p : PageAt) (e : r ≡ step.Page p) where
-    said-page : stepOf s c ≡ ok (page p)
-    said-page = page-said s c r f p e
-
+  module _ (p : PageAt) (e : stepOf s c ≡ ok (page p)) where
     pub walking-fewer : 1025 - p .next .pages < 1025 - c .pages
-    walking-fewer = fewer-on s c (w .within) p (page-is s c p said-page)
+    walking-fewer = fewer-on s c (w .within) p (page-is s c p e)
 
     pub walking-page : Walking s from (p .next)
     walking-page =
-        let k = page-is s c p said-page in
+        let k = page-is s c p e in
         record {
           within = within-on s c (w .within) p k;
           same = w .same
-              ∙ rw (fuel c (w .within), fuel-on s c (w .within) p k, walk-page s c (1024 - c .pages) p said-page)
+              ∙ rw (fuel c (w .within), fuel-on s c (w .within) p k, walk-page s c (1024 - c .pages) p e)
               (count-more s c p (walk (1024 - c .pages) s (p .next)) (pages-on s c (w .within) p k) (shapes-on s c (w .within) p k));
         }
 

@@ -20,7 +20,8 @@ use Rattle.frame.specs.Whole.{blockOf, pageBlocks, endBlock, fileOf, Say
 use Rattle.frame.proofs.Heads.{head-is, head-limits}
 use Rattle.frame.proofs.Found.{Stands, Begins, first-is, is-first, Paged, page-is, is-page, Ended, end-is, is-end}
 use Rattle.frame.proofs.Walks.{walk-end, walk-page}
-use Rattle.frame.proofs.Ahead.{Ahead, ahead-start, ahead-some, ahead-none}
+use Rattle.frame.specs.Ahead.{Ahead}
+use Rattle.frame.proofs.Ahead.{ahead-start, ahead-some, ahead-none}
 use Rattle.frame.proofs.Parts.{bytes-at, length-part, length-block, put-body, put-stands, stands-block}
 
 -- ---- the file of a frame is read

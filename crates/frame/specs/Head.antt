@@ -9,8 +9,6 @@ use Rattle.answer.specs.Table.{cut, counts, boxForm}
 use Rattle.answer.specs.Refusal.{because}
 use Rattle.answer.specs.Outcome.{Out, ok, need}
 use Rattle.le.specs.Number.{numberAt}
-use Rattle.extent.specs.declared.boxes.Form.{Form}
-use Rattle.extent.specs.declared.boxes.Form.the-variants.{Good, Bad}
 use Rattle.extent.specs.Boxes.{Bounds, boundsAt, goodForm}
 use Rattle.extent.specs.Forms.{floatsOf}
 use Rattle.frame.specs.declared.head.Head.{Head}
@@ -27,10 +25,6 @@ allZero p = eqb (p .least-x) 0 && eqb (p .least-y) 0 && eqb (p .greatest-x) 0 &&
 -- the form of a box of v vertices: all zero bytes if v = 0, else finite and not reversed
 unfoldable pub boxOk : ℕ → Bounds → Bool
 boxOk v p = cond (eqb v 0) (allZero p) (goodForm p)
-
--- the box itself, if its form is that
-unfoldable pub formIn : ℕ → Bounds → Form
-formIn v p = cond (boxOk v p) (Good (floatsOf p)) Bad
 
 -- the head of a body whose counts are g, v and p: the body reaches past cx and cy, its length is exact, its box is of good form
 unfoldable pub sizedHead : ℕ → List ℕ → ℕ → ℕ → ℕ → Out Head

@@ -1,28 +1,11 @@
 -- What the code's answers say, in the paper's numbers and values. Assumes nothing.
 use Rattle.answer.specs.Outcome.{Out, refused, ok}
-use Rattle.frame.specs.declared.head.Head.{Head}
-use Rattle.frame.specs.declared.head.HeadRead.{HeadRead}
-use Rattle.frame.specs.declared.head.HeadRead.the-variants as head-read
 use Rattle.frame.specs.declared.cursor.Cursor.{Cursor}
-use Rattle.frame.specs.declared.cursor.Step.{Step}
-use Rattle.frame.specs.declared.cursor.Step.the-variants as step
 use Rattle.frame.specs.declared.walk.FirstRead.{FirstRead}
 use Rattle.frame.specs.declared.walk.FirstRead.the-variants as first-read
 use Rattle.frame.specs.declared.walk.Framed.{Framed}
 use Rattle.frame.specs.declared.walk.Framed.the-variants as framed
 use Rattle.frame.specs.declared.walk.Totals.{Totals}
-use Rattle.frame.specs.Step.{Turn, page, end}
-
--- a head
-unfoldable pub saidHead : HeadRead → Out Head
-saidHead (head-read.Good h) = ok h
-saidHead (head-read.Refused w) = refused w
-
--- a step
-unfoldable pub saidStep : Step → Out Turn
-saidStep (step.Page p) = ok (page p)
-saidStep step.End = ok end
-saidStep (step.Refused w) = refused w
 
 -- the first block
 unfoldable pub saidFirst : FirstRead → Out Cursor

@@ -2,7 +2,7 @@
 -- first block length 2 (4), edition (5); for a page 3, at least 38 bytes (4), counts (6), exact length (4), box form (7); for the end block
 -- length 8 (4), counts (6), nothing after (4)." Assumes nothing.
 use Prim.Native.Nat.{ℕ, _+_}
-use mathlib.Core.Bool.{_&&_, cond}
+use mathlib.Core.Bool.{Bool, _&&_, cond}
 use mathlib.Core.List.{List}
 use lib.ListN.{length, take, drop}
 use lib.Dec.{ltb, eqb}
@@ -15,6 +15,7 @@ use Rattle.le.specs.declared.block.Block.{Block}
 use Rattle.frame.specs.declared.head.Head.{Head}
 use Rattle.frame.specs.declared.cursor.Cursor.{Cursor}
 use Rattle.frame.specs.declared.cursor.PageAt.{PageAt}
+use Rattle.frame.specs.declared.cursor.Glance.{Glance}
 use Rattle.frame.specs.Head.{headOf}
 
 -- the len bytes from a place on
@@ -69,3 +70,13 @@ kindStep s c b = cond (eqb (b .kind) 2) (pageStep s c b) (cond (eqb (b .kind) 3)
 -- what stands at a cursor. A refusal's page is the number of page blocks passed before it, and is set here
 unfoldable pub stepOf : List ℕ → Cursor → Out Turn
 stepOf s c = inPage (c .pages) (on (blockAt s (c .at)) (kindStep s c))
+
+-- ---- what a walk reads of a block that has passed
+
+-- the end block stands at a cursor
+unfoldable pub endsAt : List ℕ → Cursor → Bool
+endsAt s c = eqb (numberAt 2 s (c .at + 4)) 3
+
+-- what it has to know of a page that it may pass by
+abbrev pub glanceOf : PageAt → Glance
+glanceOf p = record { v = p .head .v; bounds = p .head .bounds; next = p .next }

@@ -1,6 +1,6 @@
-// A place in the walk over a file, by value.
+// A place in the walk over a file, by value, and what is read of a page there.
 use crate::head::Head;
-use answer::Refusal;
+use extent::boxes::Box;
 
 // Where the next block stands, with the file's edition and how many pages and shapes lie before it.
 pub struct Cursor {
@@ -18,9 +18,9 @@ pub struct PageAt {
     pub next: Cursor,
 }
 
-// What stands at a cursor: a page, the end of the file, or what is refused.
-pub enum Step {
-    Page(PageAt),
-    End,
-    Refused(Refusal),
+// What a walk has to know of a page that it may pass by: its vertices, its box, and the cursor after it.
+pub struct Glance {
+    pub v: usize,
+    pub bounds: Box,
+    pub next: Cursor,
 }

@@ -1,18 +1,24 @@
-// The head of a page: its counts, its box and its layout, read from the page's body.
+// The head of a page: its counts, its box and its layout; the rules that it has to meet, and how it is read where it meets them.
 ghost use mathlib.Core.Path.{_≡_};
-ghost use Prim.Native.Nat.{_≤_};
+ghost use Prim.Native.Nat.{_+_, _≤_};
 ghost use lib.ListN.{length};
-ghost use Rattle.answer.specs.Refusal.{because};
-ghost use Rattle.answer.specs.Outcome.{refused};
-ghost use Rattle.extent.specs.Boxes.{boundsAt};
-ghost use Rattle.frame.specs.Head.{countsOk, allZero, formIn, sizedHead, headOf};
-ghost use Rattle.frame.specs.Said.{saidHead};
+ghost use Rattle.answer.specs.Outcome.{ok};
+ghost use Rattle.answer.specs.Rule.{judged, passed};
+ghost use Rattle.extent.specs.Boxes.{boundsAt, goodForm, FiniteBox};
+ghost use Rattle.extent.specs.Forms.{floatsOf};
+ghost use Rattle.frame.specs.declared.head.Head.{Head};
+ghost use Rattle.frame.specs.Head.{countsOk, allZero, boxOk, sizedHead, headOf};
 use crate::layout::Layout;
 use crate::layout::layout_of;
 use answer::Refusal;
+use answer::Verdict;
+use answer::table::BOX_FORM;
+use answer::table::COUNTS;
+use answer::table::LENGTH;
 use extent::boxes::Box;
 use extent::boxes::Form;
 use extent::boxes::form_of;
+use extent::rank::float_of;
 use le::number::u16_at;
 use le::number::u32_at;
 use le::number::u64_at;
@@ -26,12 +32,6 @@ pub struct Head {
     pub cx: usize,
     pub cy: usize,
     pub layout: Layout,
-}
-
-// A head of good form, or the refusal.
-pub enum HeadRead {
-    Good(Head),
-    Refused(Refusal),
 }
 
 // Whether the counts are within the limits.
@@ -70,76 +70,96 @@ fn all_zero(least_x: u64, least_y: u64, greatest_x: u64, greatest_y: u64) -> boo
     false
 }
 
-// The box of a page with v vertices, if its form is good.
-fn form_in(v: usize, least_x: u64, least_y: u64, greatest_x: u64, greatest_y: u64) -> Form
-    ensures { λ r. ⌜ r ≡ formIn v (record { least-x = «least_x»; least-y = «least_y»; greatest-x = «greatest_x»; greatest-y = «greatest_y» }) ⌝ }
+// Whether four patterns are finite and not reversed.
+fn formed(least_x: u64, least_y: u64, greatest_x: u64, greatest_y: u64) -> bool
+    ensures { λ r. ⌜ r ≡ goodForm (record { least-x = «least_x»; least-y = «least_y»; greatest-x = «greatest_x»; greatest-y = «greatest_y» }) ⌝ }
 {
-    if v != 0 {
-        return form_of(least_x, least_y, greatest_x, greatest_y);
+    match form_of(least_x, least_y, greatest_x, greatest_y) {
+        Form::Good(_) => true,
+        Form::Bad => false,
     }
-    if all_zero(least_x, least_y, greatest_x, greatest_y) {
-        return form_of(least_x, least_y, greatest_x, greatest_y);
-    }
-    Form::Bad
 }
 
-// The box in a page's body.
-fn box_in(v: usize, b: &[u8]) -> Form
+// Whether the box in a page's body is of the form that v vertices ask for.
+fn box_ok(v: usize, b: &[u8]) -> bool
     requires { ⌜ 38 ≤ length (now b) ⌝ }
-    ensures { λ r. ⌜ r ≡ formIn v (boundsAt (now (b .entry)) 6) ⌝ }
+    ensures { λ r. ⌜ r ≡ boxOk v (boundsAt (now (b .entry)) 6) ⌝ }
 {
-    form_in(v, u64_at(b, 6), u64_at(b, 14), u64_at(b, 22), u64_at(b, 30))
+    let least_x = u64_at(b, 6);
+    let least_y = u64_at(b, 14);
+    let greatest_x = u64_at(b, 22);
+    let greatest_y = u64_at(b, 30);
+    if v == 0 {
+        return all_zero(least_x, least_y, greatest_x, greatest_y);
+    }
+    formed(least_x, least_y, greatest_x, greatest_y)
 }
 
-// Refused by a number.
-fn refused(number: u8) -> HeadRead
-    ensures { λ r. ⌜ saidHead r ≡ refused (because number) ⌝ }
-{
-    HeadRead::Refused(Refusal::because(number))
-}
-
-// The head of a body whose counts are read: its exact length, then the form of its box.
-fn sized_head(edition: usize, b: &[u8], g: usize, v: usize, p: usize) -> HeadRead
+// The rules of a body whose counts are read: its exact length, then the form of its box.
+fn sized_rules(edition: usize, b: &[u8], g: usize, v: usize, p: usize) -> Verdict
     requires { ⌜ (38 ≤ length (now b)) × (g ≤ 256) × (p ≤ 2048) ⌝ }
-    ensures { λ r. ⌜ saidHead r ≡ sizedHead edition (now (b .entry)) g v p ⌝ }
+    ensures { λ r. ⌜ judged r ≡ passed (sizedHead edition (now (b .entry)) g v p) ⌝ }
 {
     let layout = layout_of(edition, g, p);
     let sizes = layout.sizes;
     let columns = layout.columns;
     if b.len() < columns {
-        return refused(answer::table::LENGTH);
+        return Verdict::Refused(Refusal::because(LENGTH));
     }
     let cx = u32_at(b, sizes);
     let cy = u32_at(b, sizes + 4);
     if b.len() - columns != cx + cy {
-        return refused(answer::table::LENGTH);
+        return Verdict::Refused(Refusal::because(LENGTH));
     }
-    match box_in(v, b) {
-        Form::Bad => refused(answer::table::BOX_FORM),
-        Form::Good(bounds) => HeadRead::Good(Head {
-            g,
-            v,
-            p,
-            bounds,
-            cx,
-            cy,
-            layout,
-        }),
-    }
+    Verdict::of(box_ok(v, b), BOX_FORM)
 }
 
-// The head of a page's body, any bytes.
-pub fn read_head(edition: usize, b: &[u8]) -> HeadRead
-    ensures { λ r. ⌜ saidHead r ≡ headOf edition (now (b .entry)) ⌝ }
+// The rules of a page's head, over any bytes for its body.
+pub fn head_rules(edition: usize, b: &[u8]) -> Verdict
+    ensures { λ r. ⌜ judged r ≡ passed (headOf edition (now (b .entry))) ⌝ }
 {
     if b.len() < 38 {
-        return refused(answer::table::LENGTH);
+        return Verdict::Refused(Refusal::because(LENGTH));
     }
     let g = u16_at(b, 0);
     let v = u16_at(b, 2);
     let p = u16_at(b, 4);
     if !counts_ok(g, v, p) {
-        return refused(answer::table::COUNTS);
+        return Verdict::Refused(Refusal::because(COUNTS));
     }
-    sized_head(edition, b, g, v, p)
+    sized_rules(edition, b, g, v, p)
+}
+
+// The box that stands in bytes from a place on, of four finite patterns.
+pub fn box_at(s: &[u8], at: usize) -> Box
+    requires { ⌜ (at + 32 ≤ length (now s)) × FiniteBox (boundsAt (now s) at) ⌝ }
+    ensures { λ r. ⌜ r ≡ floatsOf (boundsAt (now (s .entry)) at) ⌝ }
+{
+    Box {
+        least_x: float_of(u64_at(s, at)),
+        least_y: float_of(u64_at(s, at + 8)),
+        greatest_x: float_of(u64_at(s, at + 16)),
+        greatest_y: float_of(u64_at(s, at + 24)),
+    }
+}
+
+// The head of a body that the rules let pass.
+pub fn read_head(edition: usize, b: &[u8]) -> Head
+    requires { ⌜ ((h : Head) × (headOf edition (now b) ≡ ok h)) ⌝ }
+    ensures { λ r. ⌜ headOf edition (now (b .entry)) ≡ ok r ⌝ }
+{
+    let g = u16_at(b, 0);
+    let v = u16_at(b, 2);
+    let p = u16_at(b, 4);
+    let layout = layout_of(edition, g, p);
+    let sizes = layout.sizes;
+    Head {
+        g,
+        v,
+        p,
+        bounds: box_at(b, 6),
+        cx: u32_at(b, sizes),
+        cy: u32_at(b, sizes + 4),
+        layout,
+    }
 }

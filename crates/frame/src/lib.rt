@@ -1,6 +1,7 @@
-// The frame of a file: its blocks in order, the heads of its pages, a step from block to block, and the walk over them.
+// The frame of a file: its blocks in order, the rules of each, what is read of one that has passed, and the walk over them.
 pub mod cursor;
 pub mod head;
 pub mod layout;
-pub mod step;
+pub mod read;
+mod rules;
 pub mod walk;

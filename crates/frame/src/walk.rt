@@ -8,9 +8,11 @@ ghost use Rattle.frame.specs.Step.{firstStep, firstOf};
 ghost use Rattle.frame.specs.Frame.{walk, countOf, frameOf, totalsOf};
 ghost use Rattle.frame.specs.Said.{saidFirst, saidFrame};
 use crate::cursor::Cursor;
-use crate::cursor::Step;
-use crate::step::step;
+use crate::read::at_end;
+use crate::read::glance;
+use crate::rules::block_rules;
 use answer::Refusal;
+use answer::Verdict;
 use le::block::Block;
 use le::block::BlockRead;
 use le::block::block_at;
@@ -84,20 +86,17 @@ fn walk_from(s: &[u8], from: Cursor) -> Framed
 {
     let mut c = from;
     loop {
-        match step(s, c) {
-            Step::Page(p) => {
-                c = p.next;
-            }
-            Step::End => {
-                return Framed::Sound(Totals {
-                    pages: c.pages,
-                    shapes: c.shapes,
-                });
-            }
-            Step::Refused(w) => {
-                return Framed::Refused(w);
-            }
+        if let Verdict::Refused(w) = block_rules(s, c) {
+            return Framed::Refused(w);
         }
+        if at_end(s, c) {
+            return Framed::Sound(Totals {
+                pages: c.pages,
+                shapes: c.shapes,
+            });
+        }
+        let g = glance(s, c);
+        c = g.next;
     }
 }
 

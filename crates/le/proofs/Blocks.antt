@@ -1,6 +1,7 @@
--- Laws of a block's head, one for each way through `blockAt`, and what a head that was read says. Assumes nothing.
+-- Laws of a block's head: when a block is present, the ways through `blockAt`, and what a head that was read or put says. Assumes nothing.
 use Prim.Native.Nat.{ℕ, _+_, _%_, _^_, _≤_, _<_}
 use mathlib.Core.Path.{_≡_, sym, ap, ap₂, _∙_}
+use mathlib.Core.Bool.{true, false}
 use mathlib.Core.List.{List, _++_, append-assoc}
 use native.Mathlib.Omega.{arith}
 use borrow.Author.Tests.{leb-true, le-leb, lt-leb}
@@ -9,46 +10,62 @@ use lib.Seq.{sets}
 use lib.Dec.{leb}
 use Rattle.answer.specs.Table.{cut}
 use Rattle.answer.specs.Refusal.{because}
-use Rattle.answer.specs.Outcome.{Out, refused, ok}
+use Rattle.answer.specs.Outcome.{refused, ok}
 use Rattle.answer.proofs.Outcomes.{never, ok-inj, refused-inj, met, unmet, need-ok}
+use Rattle.answer.proofs.Both.{both-r}
 use Rattle.le.specs.declared.block.Block.{Block}
 use Rattle.le.specs.declared.block.BlockRead.{BlockRead}
 use Rattle.le.specs.declared.block.BlockRead.the-variants.{Found, Refused}
 use Rattle.le.specs.Number.{numberAt, bytesOf}
-use Rattle.le.specs.Block.{blockAt, said, headOf}
+use Rattle.le.specs.Block.{presentAt, blockAt, said, headOf}
 use Rattle.le.proofs.Bytes.{length-bytesOf, number-at-append, number-at-bytesOf}
 use Rattle.le.proofs.Stores.{sets-append}
 
--- ---- the ways through
-
-abbrev block : ℕ → ℕ → ℕ → Out Block
-block body kind len = ok (record { kind = kind; body = body; len = len })
+-- ---- what is present
 
 module _ (s : List ℕ) (at : ℕ) where
-  pub block-cut : length s < at + 6 → blockAt s at ≡ refused (because cut)
-  unfolding blockAt
-  block-cut h = unmet (because cut) _ (lt-leb (at + 6) (length s) h)
+  pub present-cut : length s < at + 6 → presentAt s at ≡ false
+  unfolding presentAt
+  present-cut h = simp (lt-leb (at + 6) (length s) h)
 
-  pub block-short : (n : ℕ) → n ≡ numberAt 4 s at → at + 6 ≤ length s → length s < at + 6 + n → blockAt s at ≡ refused (because cut)
+  module _ (n : ℕ) (e : n ≡ numberAt 4 s at) where
+    pub present-short : at + 6 ≤ length s → length s < at + 6 + n → presentAt s at ≡ false
+    unfolding presentAt
+    present-short h l = rw (← e) (simp (le-leb (at + 6) (length s) h, lt-leb (at + 6 + n) (length s) l))
+
+    pub present-whole : at + 6 + n ≤ length s → presentAt s at ≡ true
+    unfolding presentAt
+    present-whole l =
+        let h : at + 6 ≤ length s = omega arith in
+        rw (← e) (simp (le-leb (at + 6) (length s) h, le-leb (at + 6 + n) (length s) l))
+
+  pub present-fits : presentAt s at ≡ true → at + 6 + numberAt 4 s at ≤ length s
+  unfolding presentAt
+  present-fits e = leb-true (at + 6 + numberAt 4 s at) (length s) (both-r (leb (at + 6) (length s)) _ e)
+
+  -- ---- the ways through
+
+  pub block-absent : presentAt s at ≡ false → blockAt s at ≡ refused (because cut)
   unfolding blockAt
-  block-short n e h l = met (because cut) _ (le-leb (at + 6) (length s) h) ∙ unmet (because cut) _ (lt-leb (at + 6 + numberAt 4 s at) (length s) (omega arith))
+  block-absent e = unmet (because cut) _ e
+
+  pub block-present : presentAt s at ≡ true → (k n : ℕ) → k ≡ numberAt 2 s (at + 4) → n ≡ numberAt 4 s at
+      → blockAt s at ≡ ok (record { kind = k; body = at + 6; len = n })
+  unfolding blockAt
+  block-present e k n ek en = met (because cut) _ e ∙ rw (ek, en)
 
   pub block-found : (k n : ℕ) → k ≡ numberAt 2 s (at + 4) → n ≡ numberAt 4 s at → at + 6 + n ≤ length s
       → blockAt s at ≡ ok (record { kind = k; body = at + 6; len = n })
-  unfolding blockAt
-  block-found k n d e l =
-      met (because cut) _ (le-leb (at + 6) (length s) (omega arith))
-      ∙ met (because cut) _ (le-leb (at + 6 + numberAt 4 s at) (length s) (omega arith))
-      ∙ ap₂ (block (at + 6)) (sym d) (sym e)
+  block-found k n ek en l = block-present (present-whole n en l) k n ek en
 
--- a block that is found is all there
+  -- a block that is found is all there, and says what its head does
+  pub block-says : (b : Block) → blockAt s at ≡ ok b
+      → (presentAt s at ≡ true) × (record { kind = numberAt 2 s (at + 4); body = at + 6; len = numberAt 4 s at } ≡ b)
+  unfolding blockAt
+  block-says b e = let p = need-ok _ _ _ b e in (p .0, ok-inj (p .1))
+
 pub block-fits : (s : List ℕ) (at : ℕ) (b : Block) → blockAt s at ≡ ok b → b .body + b .len ≤ length s
-unfolding blockAt
-block-fits s at b e =
-    let p = need-ok (leb (at + 6) (length s)) (because cut) _ b e .1 in
-    let q = need-ok (leb (at + 6 + numberAt 4 s at) (length s)) (because cut) _ b p in
-    let l = leb-true (at + 6 + numberAt 4 s at) (length s) (q .0) in
-    rw (← ok-inj (q .1)) l
+block-fits s at b e = let p = block-says s at b e in rw (← p .1) (present-fits s at (p .0))
 
 -- ---- what is said
 

@@ -1,5 +1,6 @@
 -- A block's head: "All numbers little-endian. Each block: length of the body (u32), kind (u16), body." Assumes nothing.
 use Prim.Native.Nat.{ℕ, _+_}
+use mathlib.Core.Bool.{Bool, _&&_}
 use mathlib.Core.List.{List, _++_}
 use lib.ListN.{length}
 use lib.Dec.{leb}
@@ -11,12 +12,15 @@ use Rattle.le.specs.declared.block.BlockRead.{BlockRead}
 use Rattle.le.specs.declared.block.BlockRead.the-variants.{Found, Refused}
 use Rattle.le.specs.Number.{numberAt, bytesOf}
 
--- the block whose head stands at a place: its head must be there, and then all of its body
+-- "six bytes and the body present"
+unfoldable pub presentAt : List ℕ → ℕ → Bool
+presentAt s at = leb (at + 6) (length s) && leb (at + 6 + numberAt 4 s at) (length s)
+
+-- the block whose head stands at a place
 unfoldable pub blockAt : List ℕ → ℕ → Out Block
 blockAt s at =
-    need (leb (at + 6) (length s)) (because cut)
-    (need (leb (at + 6 + numberAt 4 s at) (length s)) (because cut)
-    (ok (record { kind = numberAt 2 s (at + 4); body = at + 6; len = numberAt 4 s at })))
+    need (presentAt s at) (because cut)
+    (ok (record { kind = numberAt 2 s (at + 4); body = at + 6; len = numberAt 4 s at }))
 
 -- what the code's answer says
 unfoldable pub said : BlockRead → Out Block

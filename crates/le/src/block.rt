@@ -1,12 +1,13 @@
 // A block's head. All numbers little-endian. Each block: length of the body (u32), kind (u16), body.
 ghost use mathlib.Core.Path.{_≡_};
+ghost use mathlib.Core.Bool.{true};
 ghost use Prim.Native.Nat.{_+_, _≤_};
 ghost use lib.ListN.{length};
 ghost use lib.Seq.{sets};
 ghost use Rattle.answer.specs.Table.{cut};
 ghost use Rattle.answer.specs.Refusal.{because};
-ghost use Rattle.answer.specs.Outcome.{refused};
-ghost use Rattle.le.specs.Block.{blockAt, said, headOf};
+ghost use Rattle.answer.specs.Outcome.{refused, ok};
+ghost use Rattle.le.specs.Block.{presentAt, blockAt, said, headOf};
 use crate::number::put_u16;
 use crate::number::put_u32;
 use crate::number::u16_at;
@@ -34,24 +35,44 @@ fn short() -> BlockRead
     BlockRead::Refused(Refusal::because(LENGTH))
 }
 
+// Whether a block stands at a place, any place, with all of its body.
+pub fn present(s: &[u8], at: usize) -> bool
+    ensures { λ r. ⌜ r ≡ presentAt (now (s .entry)) at ⌝ }
+{
+    let n = s.len();
+    if n < 6 {
+        return false;
+    }
+    if n - 6 < at {
+        return false;
+    }
+    let body = at + 6;
+    if n - body < u32_at(s, at) {
+        return false;
+    }
+    true
+}
+
+// The block that is present at a place.
+pub fn block_in(s: &[u8], at: usize) -> Block
+    requires { ⌜ presentAt (now s) at ≡ true ⌝ }
+    ensures { λ r. ⌜ blockAt (now (s .entry)) at ≡ ok r ⌝ }
+{
+    Block {
+        kind: u16_at(s, at + 4),
+        body: at + 6,
+        len: u32_at(s, at),
+    }
+}
+
 // The block whose head stands at a place, any place.
 pub fn block_at(s: &[u8], at: usize) -> BlockRead
     ensures { λ r. ⌜ said r ≡ blockAt (now (s .entry)) at ⌝ }
 {
-    let n = s.len();
-    if n < 6 {
-        return short();
+    if present(s, at) {
+        return BlockRead::Found(block_in(s, at));
     }
-    if n - 6 < at {
-        return short();
-    }
-    let body = at + 6;
-    let len = u32_at(s, at);
-    if n - body < len {
-        return short();
-    }
-    let kind = u16_at(s, at + 4);
-    BlockRead::Found(Block { kind, body, len })
+    short()
 }
 
 // Puts a block's head from place at on; the rest stays.

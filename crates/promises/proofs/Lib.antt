@@ -5,7 +5,11 @@ pub mod Worked
 pub mod Sampled
 pub mod SoundFiles
 pub mod Writings
+pub mod Refusals
 pub mod Numbers
+pub mod PassedBlocks
+pub mod OpenedPages
+pub mod Pages
 pub mod Fetched
 pub mod FirstDemand
 pub mod SecondDemand

@@ -1,28 +1,25 @@
--- "Bad input is refused by one number from the table": each service gives no number but those of its line in document 01's "Order", for any input. Nothing
--- is assumed.
+-- "Bad input is refused by one number from the table": each service gives no number but those of its line in document 01's "Order", for any input. `Plain`
+-- says beside it that the page number is 0, of all that knows no file. Nothing is assumed.
 use Prim.Native.Nat.{ℕ, zero, suc, _+_, _-_}
-use mathlib.Core.Path.{_≡_, refl, sym, ap, _∙_, subst}
-use mathlib.Core.Bool.{Bool, true, false, cond, _&&_, _||_}
-use mathlib.Core.List.{List, [], _∷_, _++_}
+use mathlib.Core.Path.{_≡_, refl, sym, subst}
+use mathlib.Core.Bool.{Bool, true, false, _&&_, _||_}
+use mathlib.Core.List.{List, [], _∷_}
 use lib.Dec.{eqb, leb, ltb}
 use lib.ListN.{length}
 use borrow.Author.Tests.{eqb-true}
 use Rattle.answer.specs.declared.Refusal.{Refusal}
 use Rattle.answer.specs.Table as table
-use Rattle.answer.specs.Refusal.{because, onPage}
-use Rattle.answer.specs.Outcome.{Out, refused, ok, need, on, inPage}
-use Rattle.answer.specs.Rule.{rule}
-use Rattle.answer.proofs.Outcomes.{never, refused-inj}
-use Rattle.answer.proofs.Both.{no-both, both-l, both-r}
+use Rattle.answer.specs.Refusal.{because}
+use Rattle.answer.specs.Outcome.{Out, refused, ok, on, inPage}
+use Rattle.answer.proofs.Both.{no-both, both, both-l, both-r}
 use Rattle.le.specs.Block.{blockAt}
-use Rattle.entry.specs.Step.{pick}
 use Rattle.column.specs.Write.{writeOf}
 use Rattle.column.specs.Read.{closed, someOf, decodeOf, readOf}
 use Rattle.column.specs.declared.Position.{Position}
 use Rattle.reader.specs.Next as step
 use Rattle.extent.specs.Boxes.{patterns}
 use Rattle.query.specs.declared.ask.Ask.{Ask}
-use Rattle.query.specs.Ask.{sound, opens}
+use Rattle.query.specs.Ask.{opens}
 use Rattle.query.specs.Block.{instead, lenOf, blockLen, spotAsked, windowAsked, asked, askOf}
 use Rattle.types.specs.Parts.{partsRule}
 use Rattle.shape.specs.Outline.{Outline, Shape}
@@ -37,56 +34,25 @@ use Rattle.frame.specs.Frame as framed
 use Rattle.frame.specs.Frame.{Page, turned, walk, frameOf}
 use Rattle.page.specs.Contents.{verticesOf, outlineRules, contentsOf}
 use Rattle.pageblock.specs.Body.{Handed}
-use Rattle.pageblock.specs.Page.{countsRule, pageRules, pageOf}
+use Rattle.pageblock.specs.Page.{countsRule, pageRules, pageOf, roomFor, pageBlockOf}
 use Rattle.writer.specs.declared.Writer.{Writer}
 use Rattle.writer.specs.State.{putAt, openRule, openOf, pagesRule, pageStepOf, totalsRule, closeOf}
-use Rattle.file.specs.File.{pagesOf, shapesIn}
+use Rattle.file.specs.File.{pagesOf}
 use Rattle.file.specs.Check.{checkOf}
 use Rattle.search.specs.Search.{pageHits, metOf, metIn, hitsOf, searchOf, countOf}
 use Rattle.fetch.specs.Seek.{seekIn, seatOf}
 use Rattle.fetch.specs.Fetch.{shapeAt, shapeOf, shapeIn, Rooms, inRooms, fetchOf}
 use Rattle.fetch.specs.Rows.{rowsAt, rowsIn, rowsOf}
+use Rattle.promises.specs.Refusing.{Refuses}
 use Rattle.promises.specs.Numbers as numbers
-use Rattle.promises.specs.Numbers.{oneOf, Gives}
-
--- ---- an order of tests gives the numbers of its tests
-
-ok-gives : {A : Type 0} (ns : List ℕ) (a : A) → Gives ns (ok a)
-ok-gives ns a = record { number = λ w e. absurd (never (sym e)) }
-
-refused-gives : {A : Type 0} (ns : List ℕ) (w : Refusal) → oneOf (w .number) ns ≡ true → Gives {A = A} ns (refused w)
-refused-gives ns w h = record { number = λ v e. subst (λ (x : Refusal). oneOf (x .number) ns ≡ true) (refused-inj e) h }
-
-need-gives : {A : Type 0} (ns : List ℕ) (b : Bool) (w : Refusal) (o : Out A) → oneOf (w .number) ns ≡ true → Gives ns o → Gives ns (need b w o)
-unfolding need
-need-gives ns true w o h g = g
-need-gives ns false w o h g = refused-gives ns w h
-
-on-gives : {A B : Type 0} (ns : List ℕ) (o : Out A) (f : A → Out B) → Gives ns o → ((a : A) → Gives ns (f a)) → Gives ns (on o f)
-unfolding on
-on-gives ns (refused w) f g h = refused-gives ns w (g .number w refl)
-on-gives ns (ok a) f g h = h a
-
-page-gives : {A : Type 0} (ns : List ℕ) (k : ℕ) (o : Out A) → Gives ns o → Gives ns (inPage k o)
-unfolding inPage
-page-gives ns k (refused w) g = refused-gives ns (onPage k w) (g .number w refl)
-page-gives ns k (ok a) g = ok-gives ns a
-
-cond-gives : {A : Type 0} (ns : List ℕ) (b : Bool) (o p : Out A) → Gives ns o → Gives ns p → Gives ns (cond b o p)
-cond-gives ns true o p g h = g
-cond-gives ns false o p g h = h
-
-pick-gives : {A : Type 0} (ns : List ℕ) (b : Bool) (o p : Out A) → Gives ns o → Gives ns p → Gives ns (pick b o p)
-pick-gives ns true o p g h = g
-pick-gives ns false o p g h = h
-
-rule-gives : (ns : List ℕ) (b : Bool) (n : ℕ) → oneOf n ns ≡ true → Gives ns (rule b n)
-unfolding rule
-rule-gives ns b n h = need-gives ns b (because n) (ok tt) h (ok-gives ns tt)
+use Rattle.promises.specs.Numbers.{oneOf, by, plain, Gives, Plain}
+use Rattle.promises.specs.Pages.{NoPage}
+use Rattle.promises.proofs.Refusals.{ok-gives, refused-gives, need-gives, on-gives, in-page-gives, cond-gives, pick-gives, rule-gives, so-gives}
 
 -- ---- among more numbers all the more
 
-every : List ℕ → List ℕ → Bool
+-- each of the first is one of the others
+unfoldable pub every : List ℕ → List ℕ → Bool
 every [] ms = true
 every (n ∷ ns) ms = oneOf n ms && every ns ms
 
@@ -101,36 +67,59 @@ among (m ∷ ns) ms h n e =
     go false z k f g = g k
 
 wider : {A : Type 0} (ns ms : List ℕ) → every ns ms ≡ true → (o : Out A) → Gives ns o → Gives ms o
-wider ns ms h o g = record { number = λ w e. among ns ms h (w .number) (g .number w e) }
+wider ns ms h o g = so-gives (by ns) (by ms) o (λ w e k. among ns ms h (w .number) k) g
+
+-- ---- a plain refusal: its number, and page 0
+
+plain-by : (ns : List ℕ) (w : Refusal) → plain ns w → by ns w
+plain-by ns w k = both-l (oneOf (w .number) ns) (eqb (w .page) 0) k
+
+pub plain-gives : {A : Type 0} (ns : List ℕ) (o : Out A) → Plain ns o → Gives ns o
+plain-gives ns o g = so-gives (plain ns) (by ns) o (λ w e k. plain-by ns w k) g
+
+pub plain-no-page : {A : Type 0} (ns : List ℕ) (o : Out A) → Plain ns o → NoPage o
+plain-no-page ns o g = so-gives (plain ns) _ o (λ w e k. eqb-true (w .page) 0 (both-r (oneOf (w .number) ns) (eqb (w .page) 0) k)) g
+
+plainer : {A : Type 0} (ns ms : List ℕ) → every ns ms ≡ true → (o : Out A) → Plain ns o → Plain ms o
+plainer ns ms h o g =
+    so-gives (plain ns) (plain ms) o
+    (λ w e k. both (among ns ms h (w .number) (plain-by ns w k)) (both-r (oneOf (w .number) ns) (eqb (w .page) 0) k)) g
+
+pub widened : {A : Type 0} (ns ms : List ℕ) → every ns ms ≡ true → (o : Out A) → Plain ns o → Gives ms o
+widened ns ms h o g = plain-gives ms o (plainer ns ms h o g)
+
+-- met in a page it keeps its number
+pub page-gives : {A : Type 0} (ns : List ℕ) (k : ℕ) (o : Out A) → Plain ns o → Gives ns (inPage k o)
+page-gives ns k o g = in-page-gives (by ns) k o (so-gives (plain ns) _ o (λ w e h. plain-by ns w h) g)
 
 -- ---- columns
 
-pub write-gives : (P : ℕ) (vs : List ℕ) (size : ℕ) → Gives numbers.columnWrite (writeOf P vs size)
+pub write-gives : (P : ℕ) (vs : List ℕ) (size : ℕ) → Plain numbers.columnWrite (writeOf P vs size)
 unfolding writeOf oneOf
 write-gives P vs size = need-gives _ _ _ _ refl (need-gives _ _ _ _ refl (ok-gives _ _))
 
-closed-gives : {A : Type 0} (ns : List ℕ) (s : List ℕ) (e : ℕ) (o : Out A) → oneOf 9 ns ≡ true → oneOf 10 ns ≡ true → Gives ns o → Gives ns (closed s e o)
+closed-gives : {A : Type 0} (Such : Refusal → Type 0) (s : List ℕ) (e : ℕ) (o : Out A) → Such (because 9) → Such (because 10) → Refuses Such o → Refuses Such (closed s e o)
 unfolding closed
-closed-gives ns s e o h k g = need-gives _ _ _ _ h (need-gives _ _ _ _ k g)
+closed-gives Such s e o h k g = need-gives _ _ _ _ h (need-gives _ _ _ _ k g)
 
 -- a column's bytes, whatever the room: 8, 9, 10
-some-gives : (P : ℕ) (s : List ℕ) (n : ℕ) → Gives numbers.columnBits (someOf P s n)
+some-gives : (P : ℕ) (s : List ℕ) (n : ℕ) → Plain numbers.columnBits (someOf P s n)
 unfolding someOf oneOf
 some-gives P s n = need-gives _ _ _ _ refl (need-gives _ _ _ _ refl (closed-gives _ _ _ _ refl refl (ok-gives _ _)))
 
-decode-gives : (P : ℕ) (s : List ℕ) (n : ℕ) → Gives numbers.columnBits (decodeOf P s n)
+decode-gives : (P : ℕ) (s : List ℕ) (n : ℕ) → Plain numbers.columnBits (decodeOf P s n)
 unfolding decodeOf oneOf
 decode-gives P s n = pick-gives _ (eqb n 0) (closed s 0 (ok [])) (someOf P s n) (closed-gives _ _ _ _ refl refl (ok-gives _ _)) (some-gives P s n)
 
-pub read-gives : (P : ℕ) (s : List ℕ) (n size : ℕ) → Gives numbers.columnRead (readOf P s n size)
+pub read-gives : (P : ℕ) (s : List ℕ) (n size : ℕ) → Plain numbers.columnRead (readOf P s n size)
 unfolding readOf oneOf every
-read-gives P s n size = need-gives _ _ _ _ refl (need-gives _ _ _ _ refl (wider numbers.columnBits numbers.columnRead refl _ (decode-gives P s n)))
+read-gives P s n size = need-gives _ _ _ _ refl (need-gives _ _ _ _ refl (plainer numbers.columnBits numbers.columnRead refl _ (decode-gives P s n)))
 
-next-gives : (P : ℕ) (s : List ℕ) (n : ℕ) → Gives numbers.columnStep (step.firstOf P s n)
+next-gives : (P : ℕ) (s : List ℕ) (n : ℕ) → Plain numbers.columnStep (step.firstOf P s n)
 unfolding step.firstOf oneOf
 next-gives P s n = pick-gives _ (eqb n 0) (closed s 0 (ok step.end)) _ (closed-gives _ _ _ _ refl refl (ok-gives _ _)) (need-gives _ _ _ _ refl (need-gives _ _ _ _ refl (need-gives _ _ _ _ refl (ok-gives _ _))))
 
-later-gives : (P : ℕ) (s : List ℕ) (n : ℕ) (p : Position) → Gives numbers.columnStep (step.laterOf P s n p)
+later-gives : (P : ℕ) (s : List ℕ) (n : ℕ) (p : Position) → Plain numbers.columnStep (step.laterOf P s n p)
 unfolding step.laterOf oneOf
 later-gives P s n p =
     need-gives _ _ _ _ refl
@@ -138,42 +127,44 @@ later-gives P s n p =
     (pick-gives _ (leb n (p .given)) (closed s (p .at) (ok step.end)) _ (closed-gives _ _ _ _ refl refl (ok-gives _ _))
     (need-gives _ _ _ _ refl (need-gives _ _ _ _ refl (ok-gives _ _)))))
 
-pub step-gives : (P : ℕ) (s : List ℕ) (n : ℕ) (p : Position) → Gives numbers.columnStep (step.nextOf P s n p)
+pub step-gives : (P : ℕ) (s : List ℕ) (n : ℕ) (p : Position) → Plain numbers.columnStep (step.nextOf P s n p)
 unfolding step.nextOf oneOf
 step-gives P s n p = need-gives _ _ _ _ refl (pick-gives _ (eqb (p .given) 0) (step.firstOf P s n) (step.laterOf P s n p) (next-gives P s n) (later-gives P s n p))
 
 -- ---- the query's block
 
-instead-gives : {A : Type 0} (o : Out A) → Gives (1 ∷ []) (instead (because table.query) o)
+instead-gives : {A : Type 0} (o : Out A) → Plain (1 ∷ []) (instead (because table.query) o)
 unfolding instead oneOf
 instead-gives (refused w) = refused-gives _ _ refl
 instead-gives (ok a) = ok-gives _ _
 
-asked-gives : (s : List ℕ) → Gives (1 ∷ []) (asked s)
+asked-gives : (s : List ℕ) → Plain (1 ∷ []) (asked s)
 unfolding asked spotAsked windowAsked oneOf
 asked-gives s =
     cond-gives _ (eqb (length s) 6) _ _ (ok-gives _ _)
     (cond-gives _ (eqb (length s) 22) _ _ (need-gives _ _ _ _ refl (ok-gives _ _))
     (cond-gives _ (eqb (length s) 38) _ _ (need-gives _ _ _ _ refl (ok-gives _ _)) (refused-gives _ _ refl)))
 
-pub ask-gives : (s : List ℕ) → Gives (1 ∷ []) (askOf s)
-unfolding askOf blockLen lenOf oneOf
-ask-gives s =
-    on-gives _ _ _ (on-gives _ _ _ (instead-gives (blockAt s 0)) (λ b. need-gives _ _ _ _ refl (ok-gives _ _)))
-    (λ n. need-gives _ _ _ _ refl (asked-gives s))
+pub len-gives : (s : List ℕ) → Plain (1 ∷ []) (blockLen s)
+unfolding blockLen lenOf oneOf
+len-gives s = on-gives _ _ _ (instead-gives (blockAt s 0)) (λ b. need-gives _ _ _ _ refl (ok-gives _ _))
+
+pub ask-gives : (s : List ℕ) → Plain (1 ∷ []) (askOf s)
+unfolding askOf oneOf
+ask-gives s = on-gives _ _ _ (len-gives s) (λ n. need-gives _ _ _ _ refl (asked-gives s))
 
 -- ---- the frame
 
-block-gives : (s : List ℕ) (at : ℕ) → Gives numbers.frame (blockAt s at)
+block-gives : (s : List ℕ) (at : ℕ) → Plain numbers.frame (blockAt s at)
 unfolding blockAt oneOf
-block-gives s at = need-gives _ _ _ _ refl (need-gives _ _ _ _ refl (ok-gives _ _))
+block-gives s at = need-gives _ _ _ _ refl (ok-gives _ _)
 
-first-gives : (s : List ℕ) → Gives numbers.frame (firstOf s)
+pub first-gives : (s : List ℕ) → Plain numbers.frame (firstOf s)
 unfolding firstOf firstStep oneOf
 first-gives s =
     on-gives _ _ _ (block-gives s 0) (λ b. need-gives _ _ _ _ refl (need-gives _ _ _ _ refl (need-gives _ _ _ _ refl (ok-gives _ _))))
 
-head-gives : (edition : ℕ) (b : List ℕ) → Gives numbers.frame (headOf edition b)
+head-gives : (edition : ℕ) (b : List ℕ) → Plain numbers.frame (headOf edition b)
 unfolding headOf sizedHead oneOf
 head-gives edition b =
     need-gives _ _ _ _ refl
@@ -182,7 +173,7 @@ head-gives edition b =
 turn-gives : (s : List ℕ) (c : Cursor) → Gives numbers.frame (stepOf s c)
 unfolding stepOf kindStep pageStep endStep oneOf
 turn-gives s c =
-    page-gives _ _ _
+    page-gives numbers.frame _ _
     (on-gives _ _ _ (block-gives s (c .at)) (λ b.
     cond-gives _ (eqb (b .kind) 2) _ _ (need-gives _ _ _ _ refl (on-gives _ _ _ (head-gives (c .edition) _) (λ h. ok-gives _ _)))
     (cond-gives _ (eqb (b .kind) 3) _ _
@@ -200,33 +191,33 @@ walk-gives (suc n) s c = on-gives _ _ _ (turn-gives s c) (λ t. go (λ p. walk-g
 
 pub frame-gives : (s : List ℕ) → Gives numbers.frame (frameOf s)
 unfolding frameOf
-frame-gives s = on-gives _ _ _ (first-gives s) (λ c. on-gives _ _ _ (walk-gives 1025 s c) (λ ps. ok-gives _ _))
+frame-gives s = on-gives _ _ _ (plain-gives numbers.frame _ (first-gives s)) (λ c. on-gives _ _ _ (walk-gives 1025 s c) (λ ps. ok-gives _ _))
 
 -- ---- a page's contents, and the full check
 
-outlines-give : (ns : List ℕ) (os : List Outline) (xs ys : List ℕ) → oneOf 12 ns ≡ true → oneOf 13 ns ≡ true → oneOf 14 ns ≡ true → oneOf 15 ns ≡ true
-    → Gives ns (outlineRules os xs ys)
+outlines-give : (Such : Refusal → Type 0) (os : List Outline) (xs ys : List ℕ) → Such (because 12) → Such (because 13) → Such (because 14) → Such (because 15)
+    → Refuses Such (outlineRules os xs ys)
 unfolding outlineRules finiteRule ringRule gridRule turnRule
-outlines-give ns os xs ys a b c d =
+outlines-give Such os xs ys a b c d =
     on-gives _ _ _ (rule-gives _ _ _ a) (λ _. on-gives _ _ _ (rule-gives _ _ _ b) (λ _. on-gives _ _ _ (rule-gives _ _ _ c) (λ _. rule-gives _ _ _ d)))
 
-vertices-give : (h : Head) (b : List ℕ) → Gives numbers.columnBits (verticesOf h b)
+vertices-give : (h : Head) (b : List ℕ) → Plain numbers.columnBits (verticesOf h b)
 unfolding verticesOf
 vertices-give h b = on-gives _ _ _ (decode-gives 64 _ (h .v)) (λ xs. on-gives _ _ _ (decode-gives 64 _ (h .v)) (λ ys. ok-gives _ _))
 
-pub contents-give : (h : Head) (b : List ℕ) → Gives numbers.contents (contentsOf h b)
+pub contents-give : (h : Head) (b : List ℕ) → Plain numbers.contents (contentsOf h b)
 unfolding contentsOf partsRule boxRule oneOf every
 contents-give h b =
     on-gives _ _ _ (rule-gives _ _ _ refl) (λ _.
-    on-gives _ _ _ (wider numbers.columnBits numbers.contents refl _ (vertices-give h b)) (λ t.
-    on-gives _ _ _ (outlines-give numbers.contents _ (t .xs) (t .ys) refl refl refl refl) (λ _.
+    on-gives _ _ _ (plainer numbers.columnBits numbers.contents refl _ (vertices-give h b)) (λ t.
+    on-gives _ _ _ (outlines-give _ _ (t .xs) (t .ys) refl refl refl refl) (λ _.
     on-gives _ _ _ (rule-gives _ _ _ refl) (λ _. ok-gives _ _))))
 
-pages-give : (ps : List Page) (k : ℕ) → Gives numbers.contents (pagesOf k ps)
+pub pages-give : (ps : List Page) (k : ℕ) → Gives numbers.contents (pagesOf k ps)
 unfolding pagesOf
 pages-give [] k = ok-gives _ _
 pages-give (p ∷ ps) k =
-    on-gives _ _ _ (page-gives _ k _ (contents-give (p .head) (p .body))) (λ here. on-gives _ _ _ (pages-give ps (suc k)) (λ rest. ok-gives _ _))
+    on-gives _ _ _ (page-gives numbers.contents k _ (contents-give (p .head) (p .body))) (λ here. on-gives _ _ _ (pages-give ps (suc k)) (λ rest. ok-gives _ _))
 
 pub check-gives : (s : List ℕ) → Gives numbers.check (checkOf s)
 unfolding checkOf oneOf every
@@ -236,13 +227,13 @@ check-gives s =
 
 -- ---- the search
 
-met-gives : (a : Ask) (ps : List Page) (k n : ℕ) → Gives numbers.contents (metOf a k n ps)
+pub met-gives : (a : Ask) (ps : List Page) (k n : ℕ) → Gives numbers.contents (metOf a k n ps)
 unfolding metOf pageHits
 met-gives a [] k n = ok-gives _ _
 met-gives a (p ∷ ps) k n =
     on-gives _ _ _
     (cond-gives _ (opens a (p .head .v) (patterns (p .head .bounds))) _ _
-    (on-gives _ _ _ (page-gives _ k _ (contents-give (p .head) (p .body))) (λ here. ok-gives _ _)) (ok-gives _ [])) (λ here.
+    (on-gives _ _ _ (page-gives numbers.contents k _ (contents-give (p .head) (p .body))) (λ here. ok-gives _ _)) (ok-gives _ [])) (λ here.
     on-gives _ _ _ (met-gives a ps (suc k) (n + p .head .g)) (λ rest. ok-gives _ _))
 
 hits-give : (a : Ask) (s : List ℕ) → Gives numbers.count (hitsOf a s)
@@ -263,16 +254,16 @@ search-gives a s room =
 
 -- ---- fetch
 
-seek-gives : (ps : List Page) (k n : ℕ) → Gives numbers.place (seekIn k n ps)
+pub seek-gives : (ps : List Page) (k n : ℕ) → Plain numbers.noShape (seekIn k n ps)
 unfolding seekIn oneOf
 seek-gives [] k n = refused-gives _ _ refl
 seek-gives (p ∷ ps) k n = cond-gives _ (ltb n (p .head .g)) _ _ (ok-gives _ _) (seek-gives ps (suc k) (n - p .head .g))
 
 seat-gives : (s : List ℕ) (n : ℕ) → Gives numbers.place (seatOf s n)
 unfolding seatOf oneOf every
-seat-gives s n = on-gives _ _ _ (wider numbers.frame numbers.place refl _ (frame-gives s)) (λ f. seek-gives (f .pages) 0 n)
+seat-gives s n = on-gives _ _ _ (wider numbers.frame numbers.place refl _ (frame-gives s)) (λ f. widened numbers.noShape numbers.place refl _ (seek-gives (f .pages) 0 n))
 
-nth-gives : (n : ℕ) (l : List Shape) → Gives numbers.fetch (shapeAt n l)
+pub nth-gives : (n : ℕ) (l : List Shape) → Plain numbers.noShape (shapeAt n l)
 unfolding shapeAt oneOf
 nth-gives n [] = refused-gives _ _ refl
 nth-gives zero (x ∷ l) = ok-gives _ _
@@ -283,10 +274,10 @@ unfolding fetchOf shapeIn shapeOf inRooms oneOf every
 fetch-gives s n r =
     on-gives _ _ _
     (on-gives _ _ _ (wider numbers.place numbers.fetch refl _ (seat-gives s n)) (λ t.
-    on-gives _ _ _ (wider numbers.contents numbers.fetch refl _ (page-gives _ (t .page) _ (contents-give (t .held .head) (t .held .body)))) (nth-gives (t .index))))
+    on-gives _ _ _ (wider numbers.contents numbers.fetch refl _ (page-gives numbers.contents (t .page) _ (contents-give (t .held .head) (t .held .body)))) (λ here. widened numbers.noShape numbers.fetch refl _ (nth-gives (t .index) here))))
     (λ sh. need-gives _ _ _ _ refl (ok-gives _ _))
 
-each-row-gives : (ps : List Page) (ns : List ℕ) → Gives numbers.place (rowsAt ps ns)
+pub each-row-gives : (ps : List Page) (ns : List ℕ) → Plain numbers.noShape (rowsAt ps ns)
 unfolding rowsAt
 each-row-gives ps [] = ok-gives _ _
 each-row-gives ps (n ∷ ns) = on-gives _ _ _ (seek-gives ps 0 n) (λ t. on-gives _ _ _ (each-row-gives ps ns) (λ rs. ok-gives _ _))
@@ -295,29 +286,37 @@ pub rows-give : (s places : List ℕ) (registers types : ℕ) → Gives numbers.
 unfolding rowsOf rowsIn oneOf every
 rows-give s places registers types =
     on-gives _ _ _
-    (on-gives _ _ _ (wider numbers.frame numbers.rows refl _ (frame-gives s)) (λ f. wider numbers.place numbers.rows refl _ (each-row-gives (f .pages) places)))
+    (on-gives _ _ _ (wider numbers.frame numbers.rows refl _ (frame-gives s)) (λ f. widened numbers.noShape numbers.rows refl _ (each-row-gives (f .pages) places)))
     (λ rs. need-gives _ _ _ _ refl (ok-gives _ _))
 
 -- ---- the writer
 
-pub open-gives : (room : ℕ) → Gives numbers.writerOpen (openOf room)
+pub open-gives : (room : ℕ) → Plain numbers.writerOpen (openOf room)
 unfolding openOf putAt oneOf
 open-gives room = need-gives _ _ _ _ refl (ok-gives _ _)
 
-rules-give : (i : Handed) → Gives numbers.writerPage (pageRules i)
+rules-give : (i : Handed) → Plain numbers.pageBlock (pageRules i)
 unfolding pageRules countsRule partsRule oneOf
 rules-give i =
     on-gives _ _ _ (rule-gives _ _ _ refl) (λ _.
-    on-gives _ _ _ (rule-gives _ _ _ refl) (λ _. outlines-give numbers.writerPage _ (i .xs) (i .ys) refl refl refl refl))
+    on-gives _ _ _ (rule-gives _ _ _ refl) (λ _. outlines-give _ _ (i .xs) (i .ys) refl refl refl refl))
 
-pub page-step-gives : (st : Writer) (room : ℕ) (i : Handed) → Gives numbers.writerPage (pageStepOf st room i)
-unfolding pageStepOf openRule pagesRule pageOf putAt oneOf
+bytes-give : (i : Handed) → Plain numbers.pageBlock (pageOf i)
+unfolding pageOf
+bytes-give i = on-gives _ _ _ (rules-give i) (λ _. ok-gives _ _)
+
+pub page-block-gives : (room : ℕ) (i : Handed) → Plain numbers.pageBlock (pageBlockOf room i)
+unfolding pageBlockOf roomFor oneOf
+page-block-gives room i = on-gives _ _ _ (bytes-give i) (λ bytes. need-gives _ _ _ _ refl (ok-gives _ _))
+
+pub page-step-gives : (st : Writer) (room : ℕ) (i : Handed) → Plain numbers.writerPage (pageStepOf st room i)
+unfolding pageStepOf openRule pagesRule putAt oneOf every
 page-step-gives st room i =
     on-gives _ _ _ (rule-gives _ _ _ refl) (λ _.
     on-gives _ _ _ (rule-gives _ _ _ refl) (λ _.
-    on-gives _ _ _ (on-gives _ _ _ (rules-give i) (λ _. ok-gives _ _)) (λ bytes. need-gives _ _ _ _ refl (ok-gives _ _))))
+    on-gives _ _ _ (plainer numbers.pageBlock numbers.writerPage refl _ (bytes-give i)) (λ bytes. need-gives _ _ _ _ refl (ok-gives _ _))))
 
-pub close-gives : (st : Writer) (room : ℕ) → Gives numbers.writerClose (closeOf st room)
+pub close-gives : (st : Writer) (room : ℕ) → Plain numbers.writerClose (closeOf st room)
 unfolding closeOf openRule totalsRule putAt oneOf
 close-gives st room =
     on-gives _ _ _ (rule-gives _ _ _ refl) (λ _. on-gives _ _ _ (rule-gives _ _ _ refl) (λ _. need-gives _ _ _ _ refl (ok-gives _ _)))

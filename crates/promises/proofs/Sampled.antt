@@ -6,7 +6,7 @@ use mathlib.Core.List.{List, [], _∷_}
 use Rattle.answer.specs.Outcome.{Out, ok, need, on, inPage}
 use Rattle.answer.specs.Rule.{rule}
 use Rattle.le.specs.Number.{number, numberAt, numbersAt, bytesOf, runOf}
-use Rattle.le.specs.Block.{blockAt, headOf}
+use Rattle.le.specs.Block.{presentAt, blockAt, headOf}
 use Rattle.entry.specs.Step.{unzigzag}
 use Rattle.entry.specs.Entry.{sizeAt, valueAt, after, values}
 use Rattle.column.specs.Read.{saidBy, endOf, closed, someOf, decodeOf}
@@ -36,7 +36,7 @@ use Rattle.promises.specs.Sample.{sample, zeroed, minusZero, five, ten, 
 
 -- two pages, four shapes
 pub sample-sound : checkOf sample ≡ ok (record { pages = 2; shapes = 4 })
-unfolding need on inPage rule number numberAt numbersAt blockAt unzigzag sizeAt valueAt after values saidBy endOf closed someOf decodeOf rank finite allFinite atMost below sameValue fourFinite inOrder goodForm sameBox lesser greater leastOf greatestOf boxOf allOf rowOf total fits lengthsFit rowAgrees shapeAgrees partsAgree partsHold partsRule ofBits toBits ofFields onGrid wholeOf allOnGrid turnOf clockwise zeroTurn outlinesOf partsOf shapesOf finiteRule endsMeet closedRing ringsClosed ringRule onGridShape gridRule ringTurn turned firstClockwise ringsTurned turnsHold turnRule boxHolds boxRule each layoutOf countsOk boundsAt allZero boxOk sizedHead page.headOf firstStep firstOf pageStep endStep kindStep stepOf walk frameOf frame.shapesOf registersOf typesOf countsOf lensOf xPart yPart verticesOf outlineRules contentsOf pagesOf checkOf
+unfolding need on inPage rule number numberAt numbersAt presentAt blockAt unzigzag sizeAt valueAt after values saidBy endOf closed someOf decodeOf rank finite allFinite atMost below sameValue fourFinite inOrder goodForm sameBox lesser greater leastOf greatestOf boxOf allOf rowOf total fits lengthsFit rowAgrees shapeAgrees partsAgree partsHold partsRule ofBits toBits ofFields onGrid wholeOf allOnGrid turnOf clockwise zeroTurn outlinesOf partsOf shapesOf finiteRule endsMeet closedRing ringsClosed ringRule onGridShape gridRule ringTurn turned firstClockwise ringsTurned turnsHold turnRule boxHolds boxRule each layoutOf countsOk boundsAt allZero boxOk sizedHead page.headOf firstStep firstOf pageStep endStep kindStep stepOf walk frameOf frame.shapesOf registersOf typesOf countsOf lensOf xPart yPart verticesOf outlineRules contentsOf pagesOf checkOf
 sample-sound = refl
 
 -- "Window (0,0,10,10)" lists place 0, and so do "spot (10,10)" and "spot (-0,0)"; "spot (10.5,5) none; everything, four"
@@ -49,5 +49,5 @@ Found =
     × (foundBy [] ≡ ok (0 ∷ 1 ∷ 2 ∷ 3 ∷ []))
 
 pub sample-found : Found
-unfolding need on inPage rule number numberAt numbersAt blockAt unzigzag sizeAt valueAt after values saidBy endOf closed someOf decodeOf rank finite allFinite atMost below sameValue fourFinite inOrder goodForm sameBox lesser greater leastOf greatestOf boxOf allOf rowOf total fits lengthsFit rowAgrees shapeAgrees partsAgree partsHold partsRule ofBits toBits ofFields onGrid wholeOf allOnGrid turnOf clockwise zeroTurn outlinesOf partsOf shapesOf finiteRule endsMeet closedRing ringsClosed ringRule onGridShape gridRule ringTurn turned firstClockwise ringsTurned turnsHold turnRule boxHolds boxRule each layoutOf countsOk boundsAt allZero boxOk sizedHead page.headOf firstStep firstOf pageStep endStep kindStep stepOf walk frameOf frame.shapesOf registersOf typesOf countsOf lensOf xPart yPart verticesOf outlineRules contentsOf runOf bytesOf headOf meets instead bodyLen lenOf blockLen spotAsked windowAsked asked askOf sound reachOf stored inWindow touches hit opens placesOf hitsFrom pageHits metOf metIn hitsOf searchOf
+unfolding need on inPage rule number numberAt numbersAt presentAt blockAt unzigzag sizeAt valueAt after values saidBy endOf closed someOf decodeOf rank finite allFinite atMost below sameValue fourFinite inOrder goodForm sameBox lesser greater leastOf greatestOf boxOf allOf rowOf total fits lengthsFit rowAgrees shapeAgrees partsAgree partsHold partsRule ofBits toBits ofFields onGrid wholeOf allOnGrid turnOf clockwise zeroTurn outlinesOf partsOf shapesOf finiteRule endsMeet closedRing ringsClosed ringRule onGridShape gridRule ringTurn turned firstClockwise ringsTurned turnsHold turnRule boxHolds boxRule each layoutOf countsOk boundsAt allZero boxOk sizedHead page.headOf firstStep firstOf pageStep endStep kindStep stepOf walk frameOf frame.shapesOf registersOf typesOf countsOf lensOf xPart yPart verticesOf outlineRules contentsOf runOf bytesOf headOf meets instead bodyLen lenOf blockLen spotAsked windowAsked asked askOf sound reachOf stored inWindow touches hit opens placesOf hitsFrom pageHits metOf metIn hitsOf searchOf
 sample-found = (refl, refl, refl, refl, refl)

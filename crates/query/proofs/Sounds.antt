@@ -6,9 +6,9 @@ use Prim.Native.Nat.{ℕ, _+_, _≤_}
 use native.Mathlib.Omega.{arith}
 use borrow.Author.Tests.{eqb-true}
 use lib.ListN.{length, take, length-take}
-use lib.Dec.{leb, eqb}
+use lib.Dec.{eqb}
 use Rattle.answer.specs.declared.Refusal.{Refusal}
-use Rattle.answer.specs.Table.{query, cut}
+use Rattle.answer.specs.Table.{query}
 use Rattle.answer.specs.Refusal.{because}
 use Rattle.answer.specs.Outcome.{Out, refused, ok, need}
 use Rattle.answer.proofs.Outcomes.{never, ok-inj, need-ok, on-ok}
@@ -18,7 +18,7 @@ use Rattle.le.specs.Number.{numberAt}
 use Rattle.le.specs.Block.{blockAt}
 use Rattle.le.proofs.Bytes.{number-at-part}
 use Rattle.le.proofs.Blocks as le
-use Rattle.le.proofs.Blocks.{block-fits}
+use Rattle.le.proofs.Blocks.{block-fits, block-says}
 use Rattle.extent.specs.Rank.{finite}
 use Rattle.extent.specs.Boxes.{Bounds, boundsAt, goodForm}
 use Rattle.extent.proofs.Floats.{float-finite, floats-good}
@@ -72,12 +72,6 @@ unfolding instead
 instead-ok w (refused x) a e = absurd (never e)
 instead-ok w (ok b) a e = e
 
-found-is : (s : List ℕ) (at : ℕ) (b : Block) → blockAt s at ≡ ok b → record { kind = numberAt 2 s (at + 4); body = at + 6; len = numberAt 4 s at } ≡ b
-unfolding blockAt
-found-is s at b e =
-    let p = need-ok (leb (at + 6) (length s)) (because cut) _ b e .1 in
-    ok-inj (need-ok (leb (at + 6 + numberAt 4 s at) (length s)) (because cut) _ b p .1)
-
 -- a query block of n bytes at the front: the block that stands there
 pub record Fronts (s : List ℕ) (n : ℕ) : Type 0 where
   pub block : Block
@@ -108,7 +102,7 @@ pub len-fits : (s : List ℕ) (n : ℕ) → blockLen s ≡ ok n → n ≤ length
 len-fits s n e =
     let f = len-fronts s n e in
     let h = block-fits s 0 (f .block) (f .found) in
-    let k : 6 ≡ f .block .body = ap (λ (b : Block). b .body) (found-is s 0 (f .block) (f .found)) in
+    let k : 6 ≡ f .block .body = ap (λ (b : Block). b .body) (block-says s 0 (f .block) (f .found) .1) in
     let t = f .takes in
     omega (arith, h, k, t)
 
@@ -124,7 +118,7 @@ pub len-alone : (s : List ℕ) (n : ℕ) → blockLen s ≡ ok n → blockLen (t
 len-alone s n e =
     let f = len-fronts s n e in
     let b = f .block in
-    let q = found-is s 0 b (f .found) in
+    let q = block-says s 0 b (f .found) .1 in
     let t = f .takes in
     let h = len-fits s n e in
     let z = length-take n s in

@@ -23,7 +23,8 @@ use Rattle.frame.specs.Head.{headOf}
 use Rattle.frame.specs.Frame.{Page, Frame, frameOf}
 use Rattle.frame.proofs.Heads.{head-is}
 use Rattle.frame.proofs.Found.{first-is, page-is}
-use Rattle.frame.proofs.Ahead.{Ahead, ahead-start, ahead-some}
+use Rattle.frame.specs.Ahead.{Ahead}
+use Rattle.frame.proofs.Ahead.{ahead-start, ahead-some}
 use Rattle.page.proofs.Orders.{on-value}
 use Rattle.search.specs.Search.{pageHits, metOf, hitsOf, searchOf, countOf}
 use Rattle.search.specs.Alike.{AlikePage, Alike, none, more}

@@ -1,35 +1,39 @@
 -- The walk over a file's pages: what was found with what is still to come is the whole. Assumes nothing.
-use mathlib.Core.Path.{_≡_, refl, sym, ap, _∙_}
+use mathlib.Core.Path.{_≡_, refl, sym, ap, subst, _∙_}
+use mathlib.Core.Bool.{true, false}
 use mathlib.Core.List.{List, [], _∷_, _++_, append-nil, append-assoc}
 use Prim.Native.Nat.{ℕ, suc, _+_, _*_, _-_, _^_, _≤_, _<_}
 use native.Mathlib.Numerals.{add-one}
 use native.Mathlib.Omega.{arith}
 use lib.ListN.{length, length-append}
+use lib.Pow.{pow-mono}
 use Rattle.answer.specs.declared.Refusal.{Refusal}
 use Rattle.answer.specs.Outcome.{Out, refused, ok, on}
 use Rattle.le.specs.Number.{number}
+use Rattle.extent.specs.Boxes.{patterns}
 use Rattle.query.specs.declared.ask.Ask.{Ask}
+use Rattle.query.specs.Ask.{opens}
 use Rattle.frame.specs.declared.cursor.Cursor.{Cursor}
 use Rattle.frame.specs.declared.cursor.PageAt.{PageAt}
-use Rattle.frame.specs.declared.cursor.Step.{Step}
-use Rattle.frame.specs.declared.cursor.Step.the-variants as step
-use Rattle.frame.specs.Step.{page, firstOf, stepOf}
+use Rattle.frame.specs.Step.{page, end, firstOf, stepOf}
 use Rattle.frame.specs.Frame.{Page, Frame, pageOf, frameOf}
-use Rattle.frame.specs.Said.{saidStep}
-use Rattle.frame.proofs.Steps.{page-said, end-said, refusal-said}
+use Rattle.answer.proofs.Outcomes.{ok-inj}
+use Rattle.frame.proofs.Steps.{page-not-end, page-inj}
 use Rattle.frame.proofs.Found.{first-is, Paged, page-is}
 use Rattle.frame.proofs.Walks.{pages-on, shapes-on, within-on}
-use Rattle.frame.proofs.Ahead.{Ahead, ahead-first, ahead-never, ahead-end, ahead-page, ahead-fewer}
+use Rattle.frame.specs.Ahead.{Ahead}
+use Rattle.frame.proofs.Ahead.{ahead-one, ahead-first, ahead-end, ahead-page, ahead-fewer}
 use Rattle.search.specs.declared.count.Counted.{Counted}
 use Rattle.search.specs.declared.count.Counted.the-variants.{Hits, Refused}
 use Rattle.search.specs.Ascending.{Ascending}
 use Rattle.search.specs.Search.{pageHits, metOf, metIn}
 use Rattle.search.specs.Flags.{bitsOf}
 use Rattle.search.specs.Met.{Meets}
+use Rattle.search.specs.Skipped.{Skipping, Skips}
 use Rattle.page.proofs.Orders.{on-refused, on-value}
 use Rattle.search.proofs.Sequence.{met-none, met-cons, met-order}
 use Rattle.search.proofs.Rising.{rising-few, rising-under}
-use Rattle.search.proofs.Opened.{meets-refused, meets-ok, meets-refusal, meets-hits, page-ascends}
+use Rattle.search.proofs.Opened.{meets-refused, meets-ok, meets-refusal, meets-hits, page-ascends, page-closed}
 
 -- ---- bits of two runs of places
 
@@ -103,24 +107,17 @@ meeting-start a s d c f e q =
       bits = λ _ _. omega arith;
     }
 
-module _ (a : Ask) (s d₀ : List ℕ) (c : Cursor) (found : ℕ) (d : List ℕ) (w : Meeting a s d₀ c found d) (r : Step) (f : saidStep r ≡ stepOf s c) where
-  -- no step is refused
-  pub meeting-never : {A : Type 0} (x : Refusal) → r ≡ step.Refused x → A
-  meeting-never x e = absurd (ahead-never s c (w .pages) (w .ahead) x (refusal-said s c r f x e))
-
+module _ (a : Ask) (s d₀ : List ℕ) (c : Cursor) (found : ℕ) (d : List ℕ) (w : Meeting a s d₀ c found d) where
   -- at the end all is done
-  pub meeting-end : r ≡ step.End → Meets (metIn a s) 0 262144 (Hits found) d₀ d
+  pub meeting-end : stepOf s c ≡ ok end → Meets (metIn a s) 0 262144 (Hits found) d₀ d
   meeting-end e = meets-ok found (w .done) all (w .count) (record { added = w .bits })
     where
       all : metIn a s ≡ ok (w .done)
       all =
-          let z : w .pages ≡ [] = ahead-end s c (w .pages) (w .ahead) (end-said s c r f e) in
+          let z : w .pages ≡ [] = ahead-end s c (w .pages) (w .ahead) e in
           w .same ∙ last (metOf a (c .pages) (c .shapes) (w .pages)) (w .done) (ap (metOf a (c .pages) (c .shapes)) z ∙ met-none a (c .pages) (c .shapes))
 
-  module _ (p : PageAt) (e : r ≡ step.Page p) where
-    here : stepOf s c ≡ ok (page p)
-    here = page-said s c r f p e
-
+  module _ (p : PageAt) (here : stepOf s c ≡ ok (page p)) where
     -- the page is found
     pub meeting-paged : Paged s c p
     meeting-paged = page-is s c p here
@@ -190,3 +187,62 @@ module _ (a : Ask) (s d₀ : List ℕ) (c : Cursor) (found : ℕ) (d : List ℕ)
           where
             lower : 262144 ≤ 8 * length d₀ → number d₀ < 2 ^ 0 → number e′ < 2 ^ (p .next .shapes)
             lower x y = rw (shapes, grown x y) (rising-under {to = c .shapes + p .head .g} (c .shapes) (own .0) (number d) (omega arith) rise (w .low x y))
+
+-- ---- pages that are passed by
+
+-- no page yet
+pub skipping-start : (a : Ask) (s : List ℕ) (c : Cursor) (ps : List Page) → Ahead s c ps → Skipping a s c c
+skipping-start a s c ps h = record { coming = ps; left = ps; from-c = h; from-d = h; same = refl; onward = omega arith; further = omega arith }
+
+module _ (a : Ask) (s : List ℕ) (c d : Cursor) (k : Skipping a s c d) where
+  -- the end, where no page is opened
+  pub skips-end : stepOf s d ≡ ok end → Skips a s c d
+  skips-end e = record { skipping = k; opened = λ p h. absurd (page-not-end (ok-inj (sym h ∙ e))) }
+
+  module _ (p : PageAt) (here : stepOf s d ≡ ok (page p)) where
+    -- a page that is opened
+    pub skips-page : opens a (p .head .v) (patterns (p .head .bounds)) ≡ true → Skips a s c d
+    skips-page t = record {
+      skipping = k;
+      opened = λ q h. subst (λ (x : PageAt). opens a (x .head .v) (patterns (x .head .bounds)) ≡ true) (page-inj (ok-inj (sym here ∙ h))) t;
+    }
+
+    pub skipping-fewer : 1025 - p .next .pages < 1025 - d .pages
+    skipping-fewer = ahead-fewer s d (k .left) (k .from-d) p here
+
+    -- one that is not
+    pub skipping-more : opens a (p .head .v) (patterns (p .head .bounds)) ≡ false → Skipping a s c (p .next)
+    skipping-more t =
+        let r = ahead-page s d (k .left) (k .from-d) p here in
+        let paged = page-is s d p here in
+        let shapes : p .next .shapes ≡ d .shapes + p .head .g = shapes-on s d (k .from-d .within) p paged in
+        let up : suc (d .pages) ≡ p .next .pages = sym (pages-on s d (k .from-d .within) p paged ∙ add-one (d .pages)) in
+        record {
+          coming = k .coming;
+          left = r .0;
+          from-c = k .from-c;
+          from-d = r .2;
+          same = k .same
+              ∙ ap (metOf a (d .pages) (d .shapes)) (r .1)
+              ∙ met-page a (d .pages) (d .shapes) (pageOf s p) (r .0) [] (page-closed a (d .pages) (d .shapes) (pageOf s p) t)
+              ∙ sym (plain (metOf a (suc (d .pages)) (d .shapes + p .head .g) (r .0)))
+              ∙ (λ i. metOf a (up i) (sym shapes i) (r .0));
+          onward = omega (arith, up, k .onward);
+          further = omega (arith, shapes, k .further);
+        }
+
+-- the walk goes on behind them
+pub meeting-skip : (a : Ask) (s d₀ : List ℕ) (c : Cursor) (found : ℕ) (d : List ℕ) (e : Cursor) → Meeting a s d₀ c found d → Skipping a s c e → Meeting a s d₀ e found d
+meeting-skip a s d₀ c found d e w k = record {
+  pages = k .left;
+  done = w .done;
+  ahead = k .from-d;
+  same = w .same
+      ∙ ap (λ (ps : List Page). on (metOf a (c .pages) (c .shapes) ps) (λ l. ok (w .done ++ l))) (ahead-one s c (w .pages) (k .coming) (w .ahead) (k .from-c))
+      ∙ ap (λ (x : Out (List ℕ)). on x (λ l. ok (w .done ++ l))) (k .same);
+  count = w .count;
+  few = omega (arith, w .few, k .further);
+  long = w .long;
+  low = λ x y. (let m : 2 ^ (c .shapes) ≤ 2 ^ (e .shapes) = pow-mono {i = c .shapes} {j = e .shapes} (k .further) in let l = w .low x y in omega (arith, m, l));
+  bits = w .bits;
+}

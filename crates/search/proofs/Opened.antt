@@ -26,10 +26,10 @@ use Rattle.page.proofs.Contained.{contents-contained, outlines-long, shapes-out
 use Rattle.search.specs.declared.count.Counted.{Counted}
 use Rattle.search.specs.declared.count.Counted.the-variants.{Hits, Refused}
 use Rattle.search.specs.Ascending.{Ascending, none}
-use Rattle.search.specs.Search.{placesOf, hitsFrom, pageHits, saidCount}
+use Rattle.search.specs.Search.{placesOf, hitsFrom, openedHits, pageHits, saidCount}
 use Rattle.search.specs.Flags.{bitsOf, Adds}
 use Rattle.search.specs.Met.{Meets}
-use Rattle.search.proofs.Placing.{places-ascend, bits-none}
+use Rattle.search.proofs.Placing.{places-ascend}
 
 -- ---- what the walk says of an outcome
 
@@ -75,7 +75,7 @@ module _ (a : Ask) (k n : ℕ) (p : Page) where
   page-closed e = rw e
 
   pub page-open : opens a (p .head .v) (patterns (p .head .bounds)) ≡ true
-      → pageHits a k n p ≡ on (inPage k (contentsOf (p .head) (p .body))) (λ here. ok (hitsFrom a n here))
+      → pageHits a k n p ≡ openedHits a k n p
   unfolding pageHits
   page-open e = rw e
 
@@ -116,7 +116,7 @@ module _ (h : Head) (b counts lens xs ys : List ℕ) (y : Loaded h b counts lens
       meets-ok r (placesOf a n (outlinesOf types counts lens xs ys)) o c
       (subst (λ (m : ℕ). Adds d e n (n + m) (bitsOf (placesOf a n (outlinesOf types counts lens xs ys)))) (loaded-ready h b counts lens xs ys y types t .0) f)
 
--- what is known of a page that is not opened
-pub page-none : {d : List ℕ} (a : Ask) (k n to : ℕ) (p : Page) → opens a (p .head .v) (patterns (p .head .bounds)) ≡ false → Meets (pageHits a k n p) n to (Hits 0) d d
-page-none {d = d} a k n to p e =
-    meets-ok 0 [] (page-closed a k n p e) refl (record { added = λ _ _. (let z = bits-none in omega (arith, z)) })
+-- so what is said of an opened page's contents is said of its hits
+pub opened-meets : {d e : List ℕ} (a : Ask) (k n to : ℕ) (p : Page) (r : Counted) → opens a (p .head .v) (patterns (p .head .bounds)) ≡ true
+    → Meets (openedHits a k n p) n to r d e → Meets (pageHits a k n p) n to r d e
+opened-meets {d = d} {e = e} a k n to p r t m = subst (λ (o : Out (List ℕ)). Meets o n to r d e) (sym (page-open a k n p t)) m

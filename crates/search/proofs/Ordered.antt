@@ -14,7 +14,8 @@ use Rattle.frame.specs.declared.cursor.PageAt.{PageAt}
 use Rattle.frame.specs.Frame.{Page, Frame, frameOf, shapesOf}
 use Rattle.frame.proofs.Found.{page-is}
 use Rattle.frame.proofs.Walks.{shapes-on}
-use Rattle.frame.proofs.Ahead.{Ahead, ahead-start, ahead-some}
+use Rattle.frame.specs.Ahead.{Ahead}
+use Rattle.frame.proofs.Ahead.{ahead-start, ahead-some}
 use Rattle.search.specs.Ascending.{Ascending, none}
 use Rattle.search.specs.Search.{pageHits, metOf, hitsOf}
 use Rattle.search.specs.Flags.{bitsOf, placesIn}

@@ -4,3 +4,4 @@ pub mod Listed
 pub mod Alike
 pub mod Flags
 pub mod Met
+pub mod Skipped

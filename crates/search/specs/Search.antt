@@ -27,13 +27,13 @@ placesOf a n (o ∷ os) = cond (hit a (o .xs) (o .ys)) (n ∷ placesOf a (suc n)
 unfoldable pub hitsFrom : Ask → ℕ → List Shape → List ℕ
 hitsFrom a n ss = placesOf a n (map (λ (s : Shape). s .outline) ss)
 
--- the hits of page k, which begins at place n: if its stored box meets the query those of its contents, and a refusal has that page; else none,
--- whatever stands behind its box
+-- the hits of page k, which begins at place n, once it is opened: those of its contents, and a refusal has that page
+abbrev pub openedHits : Ask → ℕ → ℕ → Page → Out (List ℕ)
+openedHits a k n p = on (inPage k (contentsOf (p .head) (p .body))) (λ here. ok (hitsFrom a n here))
+
+-- the hits of page k, which begins at place n: if its stored box meets the query it is opened; else it has none, whatever stands behind its box
 unfoldable pub pageHits : Ask → ℕ → ℕ → Page → Out (List ℕ)
-pageHits a k n p =
-    cond (opens a (p .head .v) (patterns (p .head .bounds)))
-    (on (inPage k (contentsOf (p .head) (p .body))) (λ here. ok (hitsFrom a n here)))
-    (ok [])
+pageHits a k n p = cond (opens a (p .head .v) (patterns (p .head .bounds))) (openedHits a k n p) (ok [])
 
 -- the hits of pages in order, the first of which is page k and begins at place n
 unfoldable pub metOf : Ask → ℕ → ℕ → List Page → Out (List ℕ)

@@ -1,24 +1,28 @@
 // What a query hits in the pages of a file: a page is opened only if its stored box meets the query, and is decoded once.
 ghost use mathlib.Core.Path.{_≡_};
 ghost use mathlib.Core.Bool.{true};
-ghost use Prim.Native.Nat.{ℕ, _+_, _≤_};
+ghost use mathlib.Core.List.{List};
+ghost use Prim.Native.Nat.{ℕ, _+_, _*_, _≤_};
 ghost use lib.ListN.{length};
 ghost use Rattle.answer.specs.Outcome.{ok, on, inPage};
 ghost use Rattle.query.specs.Ask.{sound};
 ghost use Rattle.frame.specs.Head.{headOf};
-ghost use Rattle.frame.specs.Step.{part, firstOf};
-ghost use Rattle.frame.specs.Frame.{Frame, pageOf, frameOf};
+ghost use Rattle.frame.specs.declared.cursor.PageAt.{PageAt};
+ghost use Rattle.frame.specs.Step.{page, firstOf, stepOf};
+ghost use Rattle.frame.specs.Frame.{Page, Frame, pageOf, frameOf};
+ghost use Rattle.frame.specs.Ahead.{Ahead};
 ghost use Rattle.page.specs.Contents.{contentsOf};
-ghost use Rattle.search.specs.Search.{hitsFrom, pageHits, metIn};
+ghost use Rattle.search.specs.Search.{hitsFrom, openedHits, metIn};
 ghost use Rattle.search.specs.Met.{Meets};
+ghost use Rattle.search.specs.Skipped.{Skips};
 use crate::count::Counted;
 use crate::hits::shapes_hit;
 use answer::Verdict;
 use frame::cursor::Cursor;
-use frame::cursor::PageAt;
-use frame::cursor::Step;
 use frame::head::Head;
-use frame::step::step;
+use frame::read::at_end;
+use frame::read::glance;
+use frame::read::page_at;
 use page::contents::load;
 use query::ask::Ask;
 use query::ask::opens;
@@ -48,34 +52,30 @@ fn contents_hit(
     Counted::Hits(shapes_hit(a, n, &b[from..to], counts, lens, xs, ys, flags))
 }
 
-// The hits of page k of a file, whose first shape has place n. The scratch serves every page.
+// The hits of the page at a cursor, which is opened. The scratch serves every page.
 fn page_hits(
     a: Ask,
-    k: usize,
-    n: usize,
     s: &[u8],
-    p: PageAt,
+    c: Cursor,
     counts: &mut [u16],
     lens: &mut [u16],
     xs: &mut [u64],
     ys: &mut [u64],
     flags: &mut [u8],
 ) -> Counted
-    requires { ⌜ (sound (a .query) ≡ true) × (k ≤ 1024) × (n + p .head .g ≤ 262144) × (p .body + p .len ≤ length (now s)) × ((e : ℕ) × (headOf e (part (now s) (p .body) (p .len)) ≡ ok (p .head))) × (length (now counts) ≡ 256) × (length (now lens) ≡ 2048) × (length (now xs) ≡ 2048) × (length (now ys) ≡ 2048) ⌝ }
-    ensures { λ r. ⌜ Meets (pageHits a k n (pageOf (now (s .entry)) p)) n (n + p .head .g) r (now (flags .entry)) (now (flags .exit)) ⌝ }
+    requires { ⌜ (sound (a .query) ≡ true) × (c .pages ≤ 1024) × (c .shapes ≤ 256 * c .pages) × ((p : PageAt) × (stepOf (now s) c ≡ ok (page p))) × (length (now counts) ≡ 256) × (length (now lens) ≡ 2048) × (length (now xs) ≡ 2048) × (length (now ys) ≡ 2048) ⌝ }
+    ensures { λ r. ⌜ ((p : PageAt) → stepOf (now (s .entry)) c ≡ ok (page p) → Meets (openedHits a (c .pages) (c .shapes) (pageOf (now (s .entry)) p)) (c .shapes) (c .shapes + p .head .g) r (now (flags .entry)) (now (flags .exit))) ⌝ }
 {
+    let p = page_at(s, c);
     let g = p.head.g;
     let v = p.head.v;
     let m = p.head.p;
-    if !opens(a, v, p.head.bounds) {
-        return Counted::Hits(0);
-    }
     let from = p.body;
     let to = from + p.len;
     contents_hit(
         a,
-        k,
-        n,
+        c.pages,
+        c.shapes,
         &s[from..to],
         p.head,
         &mut counts[..g],
@@ -84,6 +84,22 @@ fn page_hits(
         &mut ys[..v],
         flags,
     )
+}
+
+// The next page that the query meets, from a cursor on, or the end. The others are passed by at a glance.
+fn next_met(a: Ask, s: &[u8], from: Cursor) -> Cursor
+    requires { ⌜ (sound (a .query) ≡ true) × ((ps : List Page) × Ahead (now s) from ps) ⌝ }
+    ensures { λ r. ⌜ Skips a (now (s .entry)) from r ⌝ }
+{
+    let mut c = from;
+    while !at_end(s, c) {
+        let l = glance(s, c);
+        if opens(a, l.v, l.bounds) {
+            return c;
+        }
+        c = l.next;
+    }
+    c
 }
 
 // The hits of a file whose frame is sound, from the cursor after its first block.
@@ -100,27 +116,19 @@ pub fn walk_hits(
     requires { ⌜ (sound (a .query) ≡ true) × ((f : Frame) × (frameOf (now s) ≡ ok f)) × (firstOf (now s) ≡ ok from) × (length (now counts) ≡ 256) × (length (now lens) ≡ 2048) × (length (now xs) ≡ 2048) × (length (now ys) ≡ 2048) ⌝ }
     ensures { λ r. ⌜ Meets (metIn a (now (s .entry))) 0 262144 r (now (flags .entry)) (now (flags .exit)) ⌝ }
 {
-    let mut c = from;
+    let mut c = next_met(a, s, from);
     let mut found: usize = 0;
-    loop {
-        match step(s, c) {
-            Step::Page(p) => {
-                match page_hits(a, c.pages, c.shapes, s, p, counts, lens, xs, ys, flags) {
-                    Counted::Hits(n) => {
-                        found += n;
-                        c = p.next;
-                    }
-                    Counted::Refused(w) => {
-                        return Counted::Refused(w);
-                    }
-                }
+    while !at_end(s, c) {
+        match page_hits(a, s, c, counts, lens, xs, ys, flags) {
+            Counted::Hits(n) => {
+                found += n;
+                let l = glance(s, c);
+                c = next_met(a, s, l.next);
             }
-            Step::End => {
-                return Counted::Hits(found);
-            }
-            Step::Refused(w) => {
+            Counted::Refused(w) => {
                 return Counted::Refused(w);
             }
         }
     }
+    Counted::Hits(found)
 }

@@ -16,7 +16,8 @@ use Rattle.frame.specs.Step.{part}
 use Rattle.frame.specs.Frame.{Page, frameOf}
 use Rattle.frame.proofs.Heads.{head-is, head-limits}
 use Rattle.frame.proofs.Found.{page-is}
-use Rattle.frame.proofs.Ahead.{Ahead, ahead-start, ahead-some}
+use Rattle.frame.specs.Ahead.{Ahead}
+use Rattle.frame.proofs.Ahead.{ahead-start, ahead-some}
 use Rattle.page.specs.Contents.{countsOf, lensOf, contentsOf}
 use Rattle.page.proofs.Vertices.{vertices-long}
 use Rattle.page.proofs.Contained.{contents-contained}

@@ -1,10 +1,17 @@
--- `fetch::seek::seek` goes from page to page until the place lies in one: from each cursor it may be sought as well as from the first page, no step is
--- refused, and the pages that may follow get fewer. Assumes nothing.
+-- `fetch::seek::seek` goes from page to page until the place lies in one: from each cursor it may be sought as well as from the first page, and the
+-- pages that may follow get fewer. Assumes nothing.
 use Prim.Native.Nat.{_-_, _≤_}
+use mathlib.Core.Path.{sym, ap, _∙_}
 use native.Mathlib.Omega.{arith}
-use borrow.Author.Needs.{needs}
+use borrow.Author.Tests.{not-true, not-false}
+use Rattle.answer.proofs.Outcomes.{ok-inj}
+use Rattle.frame.specs.declared.cursor.Glance.{Glance}
+use Rattle.frame.specs.declared.cursor.PageAt.{PageAt}
+use Rattle.frame.proofs.Steps.{page-inj}
+use Rattle.frame.proofs.Ahead.{ahead-turn, ahead-stop, ahead-go}
 use Rattle.fetch.specs.Onward.{Onward}
-use Rattle.fetch.proofs.Onwards.{onward-never, onward-end, onward-fewer, onward-here, onward-below, onward-more}
+use Rattle.fetch.proofs.Onwards.{onward-end, onward-fewer, onward-here, onward-more}
+use borrow.Author.Needs.{needs}
 use Rattle.fetch.proofs.seek.seek.Statement.{statement}
 use Rattle.fetch.proofs.seek.seek.Tie as tie
 
@@ -17,50 +24,40 @@ abbrev μ-loop : tie.MeasureT-loop
 loop-holds : tie.Need-loop-holds Inv-loop μ-loop
 loop-holds c = (c .before .pre .0, c .before .pre .1)
 
-step-requires : tie.Need-step-requires Inv-loop μ-loop
-step-requires c κs = (c .loop .inv .0 .ahead .within .pages, c .loop .inv .0 .ahead .within .shapes)
+at-end-requires : tie.Need-at-end-requires Inv-loop μ-loop
+at-end-requires c κs = ahead-turn _ _ _ (c .loop .inv .0 .ahead)
 
-enum-known-p : tie.Need-enum-known-p Inv-loop μ-loop
-enum-known-p c = search needs
+glance-requires : tie.Need-glance-requires Inv-loop μ-loop
+glance-requires c κs = (c .before .before .loop .inv .0 .ahead .within .shapes, ahead-go _ _ _ (c .before .before .loop .inv .0 .ahead) (sym (c .before .at-end .ensures) ∙ not-true _ (c .if1 .taken)))
 
-sub-index : tie.Need-sub-index Inv-loop μ-loop
-sub-index c = omega (arith, c .before .before .before .before .before .loop .inv .1)
+page-at-requires : tie.Need-page-at-requires Inv-loop μ-loop
+page-at-requires c κs = (c .before .before .before .before .before .loop .inv .0 .ahead .within .shapes, ahead-go _ _ _ (c .before .before .before .before .before .loop .inv .0 .ahead) (sym (c .before .before .before .before .at-end .ensures) ∙ not-true _ (c .before .before .before .if1 .taken)))
+
+sub-t9 : tie.Need-sub-t9 Inv-loop μ-loop
+sub-t9 c = omega (arith, c .before .before .before .before .before .before .before .loop .inv .1)
 
 returns : tie.Need-returns Inv-loop μ-loop
 returns c =
-    let l = c .before .before .before .before .before .before .before .loop in
-    onward-here (c .before .before .before .before .before .before .before .before .before .args .s .now) (c .before .before .before .before .before .before .before .before .before .args .place) (l .c) (l .inv .0) (l .inv .1) _ (c .before .before .before .before .before .before .step .ensures) _ (c .before .before .before .before .p .given .1) (c .if1 .taken)
+    let g = c .before .before .before .before .glance .ensures in
+    let e = c .before .page-at .ensures in
+    let same = page-inj (ok-inj (sym (g .1) ∙ e)) in
+    onward-here (c .before .before .before .before .before .before .before .before .before .args .s .now) (c .before .before .before .before .before .before .before .before .before .args .place) (c .before .before .before .before .before .before .before .loop .c) (c .before .before .before .before .before .before .before .loop .inv .0) (c .before .before .before .before .before .before .before .loop .inv .1) _ e (rw (← ap (λ (x : PageAt). x .next .shapes) same, ← ap (λ (x : Glance). x .next .shapes) (g .2)) (c .before .before .if2 .taken))
 
 loop-less : tie.Need-loop-less Inv-loop μ-loop
 loop-less c =
-    let l = c .before .before .before .before .before .before .before .before .loop in
-    onward-fewer (c .before .before .before .before .before .before .before .before .before .before .args .s .now) (c .before .before .before .before .before .before .before .before .before .before .args .place) (l .c) (l .inv .0) (l .inv .1) _ (c .before .before .before .before .before .before .before .step .ensures) _ (c .before .before .before .before .before .p .given .1)
+    let g = c .before .before .before .glance .ensures in
+    rw (ap (λ (x : Glance). x .next) (g .2)) (onward-fewer (c .before .before .before .before .before .before .before .before .args .s .now) (c .before .before .before .before .before .before .before .before .args .place) (c .before .before .before .before .before .before .loop .c) (c .before .before .before .before .before .before .loop .inv .0) (c .before .before .before .before .before .before .loop .inv .1) (g .0) (g .1))
 
 loop-again : tie.Need-loop-again Inv-loop μ-loop
 loop-again c =
-    let l = c .before .before .before .before .before .before .before .before .loop in (
-      onward-more (c .before .before .before .before .before .before .before .before .before .before .args .s .now) (c .before .before .before .before .before .before .before .before .before .before .args .place) (l .c) (l .inv .0) (l .inv .1) _ (c .before .before .before .before .before .before .before .step .ensures) _ (c .before .before .before .before .before .p .given .1),
-      onward-below (c .before .before .before .before .before .before .before .before .before .before .args .s .now) (c .before .before .before .before .before .before .before .before .before .before .args .place) (l .c) (l .inv .0) (l .inv .1) _ (c .before .before .before .before .before .before .before .step .ensures) _ (c .before .before .before .before .before .p .given .1) (c .before .if1 .left),
-    )
-
-enum-told : tie.Need-enum-told Inv-loop μ-loop
-enum-told c = search needs
+    let g = c .before .before .before .glance .ensures in
+    (rw (ap (λ (x : Glance). x .next) (g .2)) (onward-more (c .before .before .before .before .before .before .before .before .args .s .now) (c .before .before .before .before .before .before .before .before .args .place) (c .before .before .before .before .before .before .loop .c) (c .before .before .before .before .before .before .loop .inv .0) (c .before .before .before .before .before .before .loop .inv .1) (g .0) (g .1)), c .before .if2 .left)
 
 because-requires : tie.Need-because-requires Inv-loop μ-loop
 because-requires c κs = search needs
 
 returns-2 : tie.Need-returns-2 Inv-loop μ-loop
-returns-2 c =
-    let l = c .before .before .before .before .loop in
-    rw (c .because .ensures) (onward-end (c .before .before .before .before .before .before .args .s .now) (c .before .before .before .before .before .before .args .place) (l .c) (l .inv .0) (l .inv .1) _ (c .before .before .before .step .ensures) (c .before .enum-told .given .1))
-
-enum-known-w : tie.Need-enum-known-w Inv-loop μ-loop
-enum-known-w c = search needs
-
-returns-3 : tie.Need-returns-3 Inv-loop μ-loop
-returns-3 c =
-    let l = c .before .before .before .before .loop in
-    onward-never (c .before .before .before .before .before .before .args .s .now) (c .before .before .before .before .before .before .args .place) (l .c) (l .inv .0) (l .inv .1) _ (c .before .before .before .step .ensures) _ (c .before .w .given .1)
+returns-2 c = rw (c .because .ensures) (onward-end (c .before .before .before .before .before .args .s .now) (c .before .before .before .before .before .args .place) (c .before .before .before .loop .c) (c .before .before .before .loop .inv .0) (c .before .before .before .loop .inv .1) (ahead-stop _ _ _ (c .before .before .before .loop .inv .0 .ahead) (sym (c .before .before .at-end .ensures) ∙ not-false _ (c .before .if1 .left))))
 
 pub seek-spec : {M : Type 1} → statement M
 seek-spec =
@@ -69,14 +66,12 @@ seek-spec =
     Inv-loop
     μ-loop
     loop-holds
-    step-requires
-    enum-known-p
-    sub-index
+    at-end-requires
+    glance-requires
+    page-at-requires
+    sub-t9
     returns
     loop-less
     loop-again
-    enum-told
     because-requires
-    returns-2
-    enum-known-w
-    returns-3)
+    returns-2)

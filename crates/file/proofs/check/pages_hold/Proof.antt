@@ -1,17 +1,14 @@
 -- `file::check::pages_hold` judges the contents of page after page: what is left decides as the whole does. Assumes nothing.
-use mathlib.Core.Path.{_≡_, refl, sym, ap, _∙_}
-use Prim.Native.Nat.{ℕ, _-_}
+use mathlib.Core.Path.{_≡_, refl, sym, _∙_}
+use Prim.Native.Nat.{_-_}
 use native.Mathlib.Omega.{arith}
-use borrow.Author.Needs.{needs}
+use borrow.Author.Tests.{not-true, not-false}
 use lib.ListN.{length}
-use Rattle.file.proofs.Rests.{Going, going-end, going-never, going-refused, going-on, going-fewer, going-fits, going-headed}
+use Rattle.frame.proofs.Ahead.{ahead-turn, ahead-stop, ahead-go}
+use Rattle.file.proofs.Rests.{Going, going-end, going-refused, going-on, going-fewer, going-fits, going-headed}
+use borrow.Author.Needs.{needs}
 use Rattle.file.proofs.check.pages_hold.Statement.{statement}
 use Rattle.file.proofs.check.pages_hold.Tie as tie
-use Rattle.file.proofs.check.pages_hold.Reads as reads
-use Rattle.file.proofs.check.pages_hold.Lts as lts
-use Rattle.answer.proofs.Refusal.on_page.Reads as on-page-reads
-use Rattle.file.proofs.scratch.page_holds.Reads as page-holds-reads
-use Rattle.frame.proofs.step.step.Reads as step-reads
 
 abbrev Inv-loop : tie.InvT-loop
 Inv-loop s counts₀ lens₀ xs₀ ys₀ c₀ counts lens xs ys c = Going s c₀ c × (length counts ≡ 256) × (length lens ≡ 2048) × (length xs ≡ 2048) × (length ys ≡ 2048)
@@ -22,90 +19,78 @@ abbrev μ-loop : tie.MeasureT-loop
 loop-holds : tie.Need-loop-holds Inv-loop μ-loop
 loop-holds c = let q = c .before .before .before .before .before .pre in (record { ahead = q .0; same = refl }, q .1, q .2, q .3, q .4)
 
-step-requires : tie.Need-step-requires Inv-loop μ-loop
-step-requires c κs = let w = c .loop .inv .0 .ahead .1 .within in (w .pages, w .shapes)
+at-end-requires : tie.Need-at-end-requires Inv-loop μ-loop
+at-end-requires c κs = ahead-turn _ _ _ (c .loop .inv .0 .ahead .1)
 
-enum-known-p : tie.Need-enum-known-p Inv-loop μ-loop
-enum-known-p c = search needs
+page-at-requires : tie.Need-page-at-requires Inv-loop μ-loop
+page-at-requires c κs =
+    let g = c .before .before .loop .inv .0 .ahead .1 in
+    (g .within .shapes, ahead-go _ _ _ g (sym (c .before .at-end .ensures) ∙ not-true _ (c .if1 .taken)))
 
 page-holds-requires : tie.Need-page-holds-requires Inv-loop μ-loop
 page-holds-requires c κs =
-    let i = c .before .before .before .before .before .before .before .before .loop .inv in
-    let p = c .before .before .before .before .before .p .given in
-    (going-fits _ _ _ (i .0) _ (c .before .before .before .before .before .before .before .step .ensures) _ (p .1), going-headed _ _ _ (i .0) _ (c .before .before .before .before .before .before .before .step .ensures) _ (p .1), i .1, i .2, i .3, i .4)
-
-enum-told : tie.Need-enum-told Inv-loop μ-loop
-enum-told c = search needs
-
-loop-less : tie.Need-loop-less Inv-loop μ-loop
-loop-less c = going-fewer _ _ _ (c .before .before .before .before .before .before .before .before .before .before .before .before .before .before .before .before .before .before .before .before .loop .inv .0) _ (c .before .before .before .before .before .before .before .before .before .before .before .before .before .before .before .before .before .before .before .step .ensures) _ (c .before .before .before .before .before .before .before .before .before .before .before .before .before .before .before .before .before .p .given .1)
-
-loop-again : tie.Need-loop-again Inv-loop μ-loop
-loop-again c =
-    let i = c .before .before .before .before .before .before .before .before .before .before .before .before .before .before .before .before .before .before .before .before .loop .inv in
-    (going-on _ _ _ (i .0) _ (c .before .before .before .before .before .before .before .before .before .before .before .before .before .before .before .before .before .before .before .step .ensures) _ (c .before .before .before .before .before .before .before .before .before .before .before .before .before .before .before .before .before .p .given .1) (rw (c .before .enum-told .given .1) at (c .before .before .before .before .before .before .before .before .before .before .before .page-holds .ensures)), c .before .before .before .before .before .before .before .before .before .before .counts .given ∙ i .1, c .before .before .before .before .before .before .before .before .lens .given ∙ i .2, c .before .before .before .before .before .before .xs .given ∙ i .3, c .before .before .before .before .ys .given ∙ i .4)
+    let i = c .before .before .before .before .before .before .before .loop .inv in
+    let e = c .before .before .before .before .page-at .ensures in
+    (going-fits _ _ _ (i .0) _ e, going-headed _ _ _ (i .0) _ e, i .1, i .2, i .3, i .4)
 
 enum-known-w : tie.Need-enum-known-w Inv-loop μ-loop
 enum-known-w c = search needs
 
 cast-on-page : tie.Need-cast-on-page Inv-loop μ-loop
-cast-on-page c = record { fits = omega (arith, c .before .before .before .before .before .before .before .before .before .before .before .before .before .before .before .before .before .before .before .before .before .loop .inv .0 .ahead .1 .within .pages) }
+cast-on-page c = record { fits = omega (arith, c .before .before .before .before .before .before .before .before .before .before .before .before .before .before .before .before .before .before .before .before .loop .inv .0 .ahead .1 .within .pages) }
 
 on-page-requires : tie.Need-on-page-requires Inv-loop μ-loop
 on-page-requires c κs = search needs
 
 same-length : tie.Need-same-length Inv-loop μ-loop
-same-length c = c .before .before .before .before .before .before .before .before .before .before .before .before .counts .given ∙ c .before .before .before .before .before .before .before .before .before .before .before .before .before .before .before .before .before .before .before .before .before .before .loop .inv .1 ∙ sym (c .before .before .before .before .before .before .before .before .before .before .before .before .before .before .before .before .before .before .before .before .before .before .before .before .before .before .before .before .pre .1)
+same-length c = c .before .before .before .before .before .before .before .before .before .before .before .before .counts .given ∙ c .before .before .before .before .before .before .before .before .before .before .before .before .before .before .before .before .before .before .before .before .before .loop .inv .1 ∙ sym (c .before .before .before .before .before .before .before .before .before .before .before .before .before .before .before .before .before .before .before .before .before .before .before .before .before .before .before .pre .1)
 
 same-length-2 : tie.Need-same-length-2 Inv-loop μ-loop
-same-length-2 c = c .before .before .before .before .before .before .before .before .before .before .lens .given ∙ c .before .before .before .before .before .before .before .before .before .before .before .before .before .before .before .before .before .before .before .before .before .before .loop .inv .2 ∙ sym (c .before .before .before .before .before .before .before .before .before .before .before .before .before .before .before .before .before .before .before .before .before .before .before .before .before .before .before .before .pre .2)
+same-length-2 c = c .before .before .before .before .before .before .before .before .before .before .lens .given ∙ c .before .before .before .before .before .before .before .before .before .before .before .before .before .before .before .before .before .before .before .before .before .loop .inv .2 ∙ sym (c .before .before .before .before .before .before .before .before .before .before .before .before .before .before .before .before .before .before .before .before .before .before .before .before .before .before .before .pre .2)
 
 same-length-3 : tie.Need-same-length-3 Inv-loop μ-loop
-same-length-3 c = c .before .before .before .before .before .before .before .before .xs .given ∙ c .before .before .before .before .before .before .before .before .before .before .before .before .before .before .before .before .before .before .before .before .before .before .loop .inv .3 ∙ sym (c .before .before .before .before .before .before .before .before .before .before .before .before .before .before .before .before .before .before .before .before .before .before .before .before .before .before .before .before .pre .3)
+same-length-3 c = c .before .before .before .before .before .before .before .before .xs .given ∙ c .before .before .before .before .before .before .before .before .before .before .before .before .before .before .before .before .before .before .before .before .before .loop .inv .3 ∙ sym (c .before .before .before .before .before .before .before .before .before .before .before .before .before .before .before .before .before .before .before .before .before .before .before .before .before .before .before .pre .3)
 
 same-length-4 : tie.Need-same-length-4 Inv-loop μ-loop
-same-length-4 c = c .before .before .before .before .before .before .ys .given ∙ c .before .before .before .before .before .before .before .before .before .before .before .before .before .before .before .before .before .before .before .before .before .before .loop .inv .4 ∙ sym (c .before .before .before .before .before .before .before .before .before .before .before .before .before .before .before .before .before .before .before .before .before .before .before .before .before .before .before .before .pre .4)
+same-length-4 c = c .before .before .before .before .before .before .ys .given ∙ c .before .before .before .before .before .before .before .before .before .before .before .before .before .before .before .before .before .before .before .before .before .loop .inv .4 ∙ sym (c .before .before .before .before .before .before .before .before .before .before .before .before .before .before .before .before .before .before .before .before .before .before .before .before .before .before .before .pre .4)
 
 returns : tie.Need-returns Inv-loop μ-loop
 returns c =
     let w = c .before .before .before .w .given in
-    rw (c .on-page .ensures) (going-refused _ _ _ (c .before .before .before .before .before .before .before .before .before .before .before .before .before .before .before .before .before .before .before .before .before .before .loop .inv .0) _ (c .before .before .before .before .before .before .before .before .before .before .before .before .before .before .before .before .before .before .before .before .before .step .ensures) _ (c .before .before .before .before .before .before .before .before .before .before .before .before .before .before .before .before .before .before .before .p .given .1) (w .0 .0) (rw (w .1) at (c .before .before .before .before .before .before .before .before .before .before .before .before .before .page-holds .ensures)))
+    rw (c .on-page .ensures) (going-refused _ _ _ (c .before .before .before .before .before .before .before .before .before .before .before .before .before .before .before .before .before .before .before .before .before .loop .inv .0) _ (c .before .before .before .before .before .before .before .before .before .before .before .before .before .before .before .before .before .before .page-at .ensures) (w .0 .0) (rw (w .1) at (c .before .before .before .before .before .before .before .before .before .before .before .before .before .page-holds .ensures)))
 
-enum-told-2 : tie.Need-enum-told-2 Inv-loop μ-loop
-enum-told-2 c = search needs
+enum-told : tie.Need-enum-told Inv-loop μ-loop
+enum-told c = search needs
+
+loop-less : tie.Need-loop-less Inv-loop μ-loop
+loop-less c = going-fewer _ _ _ (c .before .before .before .before .before .before .before .before .before .before .before .before .before .before .before .before .before .before .before .loop .inv .0) _ (c .before .before .before .before .before .before .before .before .before .before .before .before .before .before .before .before .page-at .ensures)
+
+loop-again : tie.Need-loop-again Inv-loop μ-loop
+loop-again c =
+    let i = c .before .before .before .before .before .before .before .before .before .before .before .before .before .before .before .before .before .before .before .loop .inv in (
+      going-on _ _ _ (i .0) _ (c .before .before .before .before .before .before .before .before .before .before .before .before .before .before .before .before .page-at .ensures) (rw (c .before .enum-told .given .1) at (c .before .before .before .before .before .before .before .before .before .before .before .page-holds .ensures)),
+      c .before .before .before .before .before .before .before .before .before .before .counts .given ∙ i .1,
+      c .before .before .before .before .before .before .before .before .lens .given ∙ i .2,
+      c .before .before .before .before .before .before .xs .given ∙ i .3,
+      c .before .before .before .before .ys .given ∙ i .4,
+    )
 
 same-length-5 : tie.Need-same-length-5 Inv-loop μ-loop
-same-length-5 c = c .before .before .before .loop .inv .1 ∙ sym (c .before .before .before .before .before .before .before .before .before .pre .1)
+same-length-5 c = c .before .before .loop .inv .1 ∙ sym (c .before .before .before .before .before .before .before .before .pre .1)
 
 same-length-6 : tie.Need-same-length-6 Inv-loop μ-loop
-same-length-6 c = c .before .before .before .loop .inv .2 ∙ sym (c .before .before .before .before .before .before .before .before .before .pre .2)
+same-length-6 c = c .before .before .loop .inv .2 ∙ sym (c .before .before .before .before .before .before .before .before .pre .2)
 
 same-length-7 : tie.Need-same-length-7 Inv-loop μ-loop
-same-length-7 c = c .before .before .before .loop .inv .3 ∙ sym (c .before .before .before .before .before .before .before .before .before .pre .3)
+same-length-7 c = c .before .before .loop .inv .3 ∙ sym (c .before .before .before .before .before .before .before .before .pre .3)
 
 same-length-8 : tie.Need-same-length-8 Inv-loop μ-loop
-same-length-8 c = c .before .before .before .loop .inv .4 ∙ sym (c .before .before .before .before .before .before .before .before .before .pre .4)
+same-length-8 c = c .before .before .loop .inv .4 ∙ sym (c .before .before .before .before .before .before .before .before .pre .4)
 
 returns-2 : tie.Need-returns-2 Inv-loop μ-loop
-returns-2 c = going-end _ _ _ (c .before .before .before .loop .inv .0) _ (c .before .before .step .ensures) (c .enum-told2 .given .1)
-
-enum-known-w-2 : tie.Need-enum-known-w-2 Inv-loop μ-loop
-enum-known-w-2 c = search needs
-
-same-length-9 : tie.Need-same-length-9 Inv-loop μ-loop
-same-length-9 c = c .before .before .before .before .loop .inv .1 ∙ sym (c .before .before .before .before .before .before .before .before .before .before .pre .1)
-
-same-length-10 : tie.Need-same-length-10 Inv-loop μ-loop
-same-length-10 c = c .before .before .before .before .loop .inv .2 ∙ sym (c .before .before .before .before .before .before .before .before .before .before .pre .2)
-
-same-length-11 : tie.Need-same-length-11 Inv-loop μ-loop
-same-length-11 c = c .before .before .before .before .loop .inv .3 ∙ sym (c .before .before .before .before .before .before .before .before .before .before .pre .3)
-
-same-length-12 : tie.Need-same-length-12 Inv-loop μ-loop
-same-length-12 c = c .before .before .before .before .loop .inv .4 ∙ sym (c .before .before .before .before .before .before .before .before .before .before .pre .4)
-
-returns-3 : tie.Need-returns-3 Inv-loop μ-loop
-returns-3 c = going-never _ _ _ (c .before .before .before .before .loop .inv .0) _ (c .before .before .before .step .ensures) _ _ (c .before .w2 .given .1)
+returns-2 c =
+    let g = c .before .before .loop .inv .0 in
+    going-end _ _ _ g (ahead-stop _ _ _ (g .ahead .1) (sym (c .before .at-end .ensures) ∙ not-false _ (c .if1 .left)))
 
 pub pages-hold-spec : {M : Type 1} → statement M
 pages-hold-spec =
@@ -114,12 +99,9 @@ pages-hold-spec =
     Inv-loop
     μ-loop
     loop-holds
-    step-requires
-    enum-known-p
+    at-end-requires
+    page-at-requires
     page-holds-requires
-    enum-told
-    loop-less
-    loop-again
     enum-known-w
     cast-on-page
     on-page-requires
@@ -128,15 +110,11 @@ pages-hold-spec =
     same-length-3
     same-length-4
     returns
-    enum-told-2
+    enum-told
+    loop-less
+    loop-again
     same-length-5
     same-length-6
     same-length-7
     same-length-8
-    returns-2
-    enum-known-w-2
-    same-length-9
-    same-length-10
-    same-length-11
-    same-length-12
-    returns-3)
+    returns-2)

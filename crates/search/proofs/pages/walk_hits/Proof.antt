@@ -1,50 +1,60 @@
--- `search::pages::walk_hits` goes from page to page: what was found with what is still to come is the whole, no step is refused, and the pages that
--- may follow get fewer. Assumes nothing.
-use mathlib.Core.Path.{_≡_, refl, _∙_}
+-- `search::pages::walk_hits` goes from each page that the query meets to the next: what was found with what is still to come is the whole, and the
+-- pages that may follow get fewer. Assumes nothing.
+use mathlib.Core.Path.{_≡_, refl, sym, ap, _∙_}
+use mathlib.Core.Bool.{true}
 use Prim.Native.Nat.{_-_}
 use native.Mathlib.Omega.{arith}
+use borrow.Author.Tests.{not-true, not-false}
 use lib.ListN.{length}
-use Rattle.search.proofs.Meeting.{Meeting, meeting-start, meeting-never, meeting-end, meeting-paged, meeting-room, meeting-fewer, meeting-refused, meeting-fits, meeting-more}
+use Rattle.answer.specs.Outcome.{ok}
+use Rattle.extent.specs.Boxes.{patterns}
+use Rattle.query.specs.Ask.{opens}
+use Rattle.frame.specs.declared.cursor.Glance.{Glance}
+use Rattle.frame.specs.declared.cursor.PageAt.{PageAt}
+use Rattle.frame.specs.Step.{page, stepOf}
+use Rattle.frame.proofs.Ahead.{ahead-first, ahead-turn, ahead-stop, ahead-go, ahead-page}
+use Rattle.search.proofs.Opened.{opened-meets}
+use Rattle.search.proofs.Meeting.{Meeting, meeting-start, meeting-end, meeting-fewer, meeting-refused, meeting-fits, meeting-more, meeting-skip}
 use borrow.Author.Needs.{needs}
 use Rattle.search.proofs.pages.walk_hits.Statement.{statement}
 use Rattle.search.proofs.pages.walk_hits.Tie as tie
 
 abbrev Inv-loop : tie.InvT-loop
-Inv-loop a s counts₀ lens₀ xs₀ ys₀ flags₀ c₀ found₀ counts lens xs ys flags c found = Meeting a s flags₀ c found flags × (length counts ≡ length counts₀) × (length lens ≡ length lens₀) × (length xs ≡ length xs₀) × (length ys ≡ length ys₀)
+Inv-loop a s counts₀ lens₀ xs₀ ys₀ flags₀ c₀ found₀ counts lens xs ys flags c found =
+    Meeting a s flags₀ c found flags
+    × ((p : PageAt) → stepOf s c ≡ ok (page p) → opens a (p .head .v) (patterns (p .head .bounds)) ≡ true)
+    × (length counts ≡ length counts₀) × (length lens ≡ length lens₀) × (length xs ≡ length xs₀) × (length ys ≡ length ys₀)
 
 abbrev μ-loop : tie.MeasureT-loop
 μ-loop a s counts₀ lens₀ xs₀ ys₀ flags₀ c₀ found₀ counts lens xs ys flags c found = 1025 - c .pages
 
+next-met-requires : tie.Need-next-met-requires Inv-loop μ-loop
+next-met-requires c κs =
+    let st = c .before .before .before .before .before .before in
+    (st .pre .0, (_, ahead-first _ _ _ (st .pre .1 .1) (st .pre .2) .1))
+
 loop-holds : tie.Need-loop-holds Inv-loop μ-loop
 loop-holds c =
-    let st = c .before .before .before .before .before .before in
+    let st = c .before .before .before .before .before .before .before in
     let a = st .args in
-    (meeting-start (a .a) (a .s .now) (a .flags .now) (a .from) (st .pre .1 .0) (st .pre .1 .1) (st .pre .2), refl, refl, refl, refl)
+    let k = c .next-met .ensures in
+    (meeting-skip _ _ _ _ _ _ _ (meeting-start (a .a) (a .s .now) (a .flags .now) (a .from) (st .pre .1 .0) (st .pre .1 .1) (st .pre .2)) (k .skipping), k .opened, refl, refl, refl, refl)
 
-step-requires : tie.Need-step-requires Inv-loop μ-loop
-step-requires c κs = (c .loop .inv .0 .ahead .within .pages, c .loop .inv .0 .ahead .within .shapes)
-
-enum-known-p : tie.Need-enum-known-p Inv-loop μ-loop
-enum-known-p c = search needs
+at-end-requires : tie.Need-at-end-requires Inv-loop μ-loop
+at-end-requires c κs = ahead-turn _ _ _ (c .loop .inv .0 .ahead)
 
 page-hits-requires : tie.Need-page-hits-requires Inv-loop μ-loop
 page-hits-requires c κs =
-    let a = c .before .before .before .before .before .before .before .before .before .before .before .before .before .before .before .before .args in
-    let l = c .before .before .before .before .before .before .before .before .before .loop in
-    let s = c .before .before .before .before .before .before .before .before .step in
-    let p = c .before .before .before .before .before .before .p .given in
-    let st = c .before .before .before .before .before .before .before .before .before .before .before .before .before .before .before .before in
-    let k = meeting-paged (a .a) (a .s .now) (a .flags .now) (l .c) (l .found) (l .flags) (l .inv .0) _ (s .ensures) (p .0 .0) (p .1) in
-    let v = l .inv in (
+    let st = c .before .before .before .before .before .before .before .before .before .before .before .before .before .before .before in
+    let v = c .before .before .before .before .before .before .before .loop .inv in (
       st .pre .0,
-      l .inv .0 .ahead .within .pages,
-      meeting-room (a .a) (a .s .now) (a .flags .now) (l .c) (l .found) (l .flags) (l .inv .0) _ (s .ensures) (p .0 .0) (p .1),
-      k .stands .fits,
-      (l .c .edition, k .headed),
-      v .1 ∙ st .pre .3,
-      v .2 ∙ st .pre .4,
-      v .3 ∙ st .pre .5,
-      v .4 ∙ st .pre .6,
+      v .0 .ahead .within .pages,
+      v .0 .ahead .within .shapes,
+      ahead-go _ _ _ (c .before .before .before .before .before .before .before .loop .inv .0 .ahead) (sym (c .before .before .before .before .before .before .at-end .ensures) ∙ not-true _ (c .before .before .before .before .before .if1 .taken)),
+      v .2 ∙ st .pre .3,
+      v .3 ∙ st .pre .4,
+      v .4 ∙ st .pre .5,
+      v .5 ∙ st .pre .6,
     )
 
 enum-known-n : tie.Need-enum-known-n Inv-loop μ-loop
@@ -52,111 +62,83 @@ enum-known-n c = search needs
 
 add-found : tie.Need-add-found Inv-loop μ-loop
 add-found c =
-    let a = c .before .before .before .before .before .before .before .before .before .before .before .before .before .before .before .before .before .before .before .before .before .before .before .before .before .before .before .before .before .before .args in
-    let l = c .before .before .before .before .before .before .before .before .before .before .before .before .before .before .before .before .before .before .before .before .before .before .before .loop in
-    let s = c .before .before .before .before .before .before .before .before .before .before .before .before .before .before .before .before .before .before .before .before .before .before .step in
-    let p = c .before .before .before .before .before .before .before .before .before .before .before .before .before .before .before .before .before .before .before .before .p .given in
+    let p = ahead-go _ _ _ (c .before .before .before .before .before .before .before .before .before .before .before .before .before .before .before .before .before .before .before .before .before .loop .inv .0 .ahead) (sym (c .before .before .before .before .before .before .before .before .before .before .before .before .before .before .before .before .before .before .before .before .at-end .ensures) ∙ not-true _ (c .before .before .before .before .before .before .before .before .before .before .before .before .before .before .before .before .before .before .before .if1 .taken)) in
     let n = c .before .n .given in
-    omega (arith, meeting-fits (a .a) (a .s .now) (a .flags .now) (l .c) (l .found) (l .flags) (l .inv .0) _ (s .ensures) (p .0 .0) (p .1) _ _ (c .before .before .before .before .before .before .before .before .before .before .before .before .before .page-hits .ensures) (n .0 .0) (n .1))
+    omega (arith, meeting-fits (c .before .before .before .before .before .before .before .before .before .before .before .before .before .before .before .before .before .before .before .before .before .before .before .before .before .before .before .before .before .args .a) (c .before .before .before .before .before .before .before .before .before .before .before .before .before .before .before .before .before .before .before .before .before .before .before .before .before .before .before .before .before .args .s .now) (c .before .before .before .before .before .before .before .before .before .before .before .before .before .before .before .before .before .before .before .before .before .before .before .before .before .before .before .before .before .args .flags .now) (c .before .before .before .before .before .before .before .before .before .before .before .before .before .before .before .before .before .before .before .before .before .loop .c) (c .before .before .before .before .before .before .before .before .before .before .before .before .before .before .before .before .before .before .before .before .before .loop .found) (c .before .before .before .before .before .before .before .before .before .before .before .before .before .before .before .before .before .before .before .before .before .loop .flags) (c .before .before .before .before .before .before .before .before .before .before .before .before .before .before .before .before .before .before .before .before .before .loop .inv .0) (p .0) (p .1) _ _ (opened-meets (c .before .before .before .before .before .before .before .before .before .before .before .before .before .before .before .before .before .before .before .before .before .before .before .before .before .before .before .before .before .args .a) (c .before .before .before .before .before .before .before .before .before .before .before .before .before .before .before .before .before .before .before .before .before .loop .c .pages) (c .before .before .before .before .before .before .before .before .before .before .before .before .before .before .before .before .before .before .before .before .before .loop .c .shapes) _ _ _ (c .before .before .before .before .before .before .before .before .before .before .before .before .before .before .before .before .before .before .before .before .before .loop .inv .1 (p .0) (p .1)) (c .before .before .before .before .before .before .before .before .before .before .before .before .before .page-hits .ensures (p .0) (p .1))) (n .0 .0) (n .1))
+
+glance-requires : tie.Need-glance-requires Inv-loop μ-loop
+glance-requires c κs = (c .before .before .before .before .before .before .before .before .before .before .before .before .before .before .before .before .before .before .before .before .before .loop .inv .0 .ahead .within .shapes, ahead-go _ _ _ (c .before .before .before .before .before .before .before .before .before .before .before .before .before .before .before .before .before .before .before .before .before .loop .inv .0 .ahead) (sym (c .before .before .before .before .before .before .before .before .before .before .before .before .before .before .before .before .before .before .before .before .at-end .ensures) ∙ not-true _ (c .before .before .before .before .before .before .before .before .before .before .before .before .before .before .before .before .before .before .before .if1 .taken)))
+
+next-met-requires-2 : tie.Need-next-met-requires-2 Inv-loop μ-loop
+next-met-requires-2 c κs =
+    let p = c .glance .ensures in
+    let r = ahead-page _ _ _ (c .before .before .before .before .before .before .before .before .before .before .before .before .before .before .before .before .before .before .before .before .before .before .loop .inv .0 .ahead) (p .0) (p .1) in
+    (c .before .before .before .before .before .before .before .before .before .before .before .before .before .before .before .before .before .before .before .before .before .before .before .before .before .before .before .before .before .before .pre .0, (r .0, rw (ap (λ (x : Glance). x .next) (p .2)) (r .2)))
 
 loop-less : tie.Need-loop-less Inv-loop μ-loop
 loop-less c =
-    let a = c .before .before .before .before .before .before .before .before .before .before .before .before .before .before .before .before .before .before .before .before .before .before .before .before .before .before .before .before .before .before .before .args in
-    let l = c .before .before .before .before .before .before .before .before .before .before .before .before .before .before .before .before .before .before .before .before .before .before .before .before .loop in
-    let s = c .before .before .before .before .before .before .before .before .before .before .before .before .before .before .before .before .before .before .before .before .before .before .before .step in
-    let p = c .before .before .before .before .before .before .before .before .before .before .before .before .before .before .before .before .before .before .before .before .before .p .given in
-    meeting-fewer (a .a) (a .s .now) (a .flags .now) (l .c) (l .found) (l .flags) (l .inv .0) _ (s .ensures) (p .0 .0) (p .1)
+    let p = c .before .glance .ensures in
+    let k = c .next-met2 .ensures .skipping .onward in
+    let q = ap (λ (x : Glance). x .next .pages) (p .2) in
+    let l = meeting-fewer (c .before .before .before .before .before .before .before .before .before .before .before .before .before .before .before .before .before .before .before .before .before .before .before .before .before .before .before .before .before .before .before .args .a) (c .before .before .before .before .before .before .before .before .before .before .before .before .before .before .before .before .before .before .before .before .before .before .before .before .before .before .before .before .before .before .before .args .s .now) (c .before .before .before .before .before .before .before .before .before .before .before .before .before .before .before .before .before .before .before .before .before .before .before .before .before .before .before .before .before .before .before .args .flags .now) (c .before .before .before .before .before .before .before .before .before .before .before .before .before .before .before .before .before .before .before .before .before .before .before .loop .c) (c .before .before .before .before .before .before .before .before .before .before .before .before .before .before .before .before .before .before .before .before .before .before .before .loop .found) (c .before .before .before .before .before .before .before .before .before .before .before .before .before .before .before .before .before .before .before .before .before .before .before .loop .flags) (c .before .before .before .before .before .before .before .before .before .before .before .before .before .before .before .before .before .before .before .before .before .before .before .loop .inv .0) (p .0) (p .1) in
+    omega (arith, k, q, l)
 
 loop-again : tie.Need-loop-again Inv-loop μ-loop
 loop-again c =
-    let a = c .before .before .before .before .before .before .before .before .before .before .before .before .before .before .before .before .before .before .before .before .before .before .before .before .before .before .before .before .before .before .before .args in
-    let l = c .before .before .before .before .before .before .before .before .before .before .before .before .before .before .before .before .before .before .before .before .before .before .before .before .loop in
-    let s = c .before .before .before .before .before .before .before .before .before .before .before .before .before .before .before .before .before .before .before .before .before .before .before .step in
-    let p = c .before .before .before .before .before .before .before .before .before .before .before .before .before .before .before .before .before .before .before .before .before .p .given in
-    let n = c .before .before .n .given in
-    let v = l .inv in (
-      meeting-more (a .a) (a .s .now) (a .flags .now) (l .c) (l .found) (l .flags) (l .inv .0) _ (s .ensures) (p .0 .0) (p .1) _ _ (c .before .before .before .before .before .before .before .before .before .before .before .before .before .before .page-hits .ensures) (n .0 .0) (n .1) (c .before .before .before .before .before .flags .given),
-      c .before .before .before .before .before .before .before .before .before .before .before .before .before .counts .given ∙ v .1,
-      c .before .before .before .before .before .before .before .before .before .before .before .lens .given ∙ v .2,
-      c .before .before .before .before .before .before .before .before .before .xs .given ∙ v .3,
-      c .before .before .before .before .before .before .before .ys .given ∙ v .4,
+    let p = c .before .glance .ensures in
+    let n = c .before .before .before .n .given in
+    let v = c .before .before .before .before .before .before .before .before .before .before .before .before .before .before .before .before .before .before .before .before .before .before .before .loop .inv in
+    let k = c .next-met2 .ensures in
+    let more = meeting-more (c .before .before .before .before .before .before .before .before .before .before .before .before .before .before .before .before .before .before .before .before .before .before .before .before .before .before .before .before .before .before .before .args .a) (c .before .before .before .before .before .before .before .before .before .before .before .before .before .before .before .before .before .before .before .before .before .before .before .before .before .before .before .before .before .before .before .args .s .now) (c .before .before .before .before .before .before .before .before .before .before .before .before .before .before .before .before .before .before .before .before .before .before .before .before .before .before .before .before .before .before .before .args .flags .now) (c .before .before .before .before .before .before .before .before .before .before .before .before .before .before .before .before .before .before .before .before .before .before .before .loop .c) (c .before .before .before .before .before .before .before .before .before .before .before .before .before .before .before .before .before .before .before .before .before .before .before .loop .found) (c .before .before .before .before .before .before .before .before .before .before .before .before .before .before .before .before .before .before .before .before .before .before .before .loop .flags) (c .before .before .before .before .before .before .before .before .before .before .before .before .before .before .before .before .before .before .before .before .before .before .before .loop .inv .0) (p .0) (p .1) _ _ (opened-meets (c .before .before .before .before .before .before .before .before .before .before .before .before .before .before .before .before .before .before .before .before .before .before .before .before .before .before .before .before .before .before .before .args .a) (c .before .before .before .before .before .before .before .before .before .before .before .before .before .before .before .before .before .before .before .before .before .before .before .loop .c .pages) (c .before .before .before .before .before .before .before .before .before .before .before .before .before .before .before .before .before .before .before .before .before .before .before .loop .c .shapes) _ _ _ (c .before .before .before .before .before .before .before .before .before .before .before .before .before .before .before .before .before .before .before .before .before .before .before .loop .inv .1 (p .0) (p .1)) (c .before .before .before .before .before .before .before .before .before .before .before .before .before .before .before .page-hits .ensures (p .0) (p .1))) (n .0 .0) (n .1) (c .before .before .before .before .before .before .flags .given) in (
+      meeting-skip _ _ _ _ _ _ _ (rw (ap (λ (x : Glance). x .next) (p .2)) more) (k .skipping),
+      k .opened,
+      c .before .before .before .before .before .before .before .before .before .before .before .before .before .before .counts .given ∙ v .2,
+      c .before .before .before .before .before .before .before .before .before .before .before .before .lens .given ∙ v .3,
+      c .before .before .before .before .before .before .before .before .before .before .xs .given ∙ v .4,
+      c .before .before .before .before .before .before .before .before .ys .given ∙ v .5,
     )
 
 enum-known-w : tie.Need-enum-known-w Inv-loop μ-loop
 enum-known-w c = search needs
 
 same-length : tie.Need-same-length Inv-loop μ-loop
-same-length c = c .before .before .before .before .before .before .before .before .before .before .before .before .counts .given ∙ c .before .before .before .before .before .before .before .before .before .before .before .before .before .before .before .before .before .before .before .before .before .before .before .loop .inv .1
+same-length c = c .before .before .before .before .before .before .before .before .before .before .before .before .counts .given ∙ c .before .before .before .before .before .before .before .before .before .before .before .before .before .before .before .before .before .before .before .before .before .loop .inv .2
 
 same-length-2 : tie.Need-same-length-2 Inv-loop μ-loop
-same-length-2 c = c .before .before .before .before .before .before .before .before .before .before .lens .given ∙ c .before .before .before .before .before .before .before .before .before .before .before .before .before .before .before .before .before .before .before .before .before .before .before .loop .inv .2
+same-length-2 c = c .before .before .before .before .before .before .before .before .before .before .lens .given ∙ c .before .before .before .before .before .before .before .before .before .before .before .before .before .before .before .before .before .before .before .before .before .loop .inv .3
 
 same-length-3 : tie.Need-same-length-3 Inv-loop μ-loop
-same-length-3 c = c .before .before .before .before .before .before .before .before .xs .given ∙ c .before .before .before .before .before .before .before .before .before .before .before .before .before .before .before .before .before .before .before .before .before .before .before .loop .inv .3
+same-length-3 c = c .before .before .before .before .before .before .before .before .xs .given ∙ c .before .before .before .before .before .before .before .before .before .before .before .before .before .before .before .before .before .before .before .before .before .loop .inv .4
 
 same-length-4 : tie.Need-same-length-4 Inv-loop μ-loop
-same-length-4 c = c .before .before .before .before .before .before .ys .given ∙ c .before .before .before .before .before .before .before .before .before .before .before .before .before .before .before .before .before .before .before .before .before .before .before .loop .inv .4
+same-length-4 c = c .before .before .before .before .before .before .ys .given ∙ c .before .before .before .before .before .before .before .before .before .before .before .before .before .before .before .before .before .before .before .before .before .loop .inv .5
 
 same-length-5 : tie.Need-same-length-5 Inv-loop μ-loop
-same-length-5 c = c .before .before .before .before .flags .given ∙ c .before .before .before .before .before .before .before .before .before .before .before .before .before .before .before .before .before .before .before .before .before .before .before .loop .inv .0 .long
+same-length-5 c = c .before .before .before .before .flags .given ∙ c .before .before .before .before .before .before .before .before .before .before .before .before .before .before .before .before .before .before .before .before .before .loop .inv .0 .long
 
 returns : tie.Need-returns Inv-loop μ-loop
 returns c =
-    let a = c .before .before .before .before .before .before .before .before .before .before .before .before .before .before .before .before .before .before .before .before .before .before .before .before .before .before .before .before .before .before .args in
-    let l = c .before .before .before .before .before .before .before .before .before .before .before .before .before .before .before .before .before .before .before .before .before .before .before .loop in
-    let s = c .before .before .before .before .before .before .before .before .before .before .before .before .before .before .before .before .before .before .before .before .before .before .step in
-    let p = c .before .before .before .before .before .before .before .before .before .before .before .before .before .before .before .before .before .before .before .before .p .given in
+    let p = ahead-go _ _ _ (c .before .before .before .before .before .before .before .before .before .before .before .before .before .before .before .before .before .before .before .before .before .loop .inv .0 .ahead) (sym (c .before .before .before .before .before .before .before .before .before .before .before .before .before .before .before .before .before .before .before .before .at-end .ensures) ∙ not-true _ (c .before .before .before .before .before .before .before .before .before .before .before .before .before .before .before .before .before .before .before .if1 .taken)) in
     let w = c .before .w .given in
-    meeting-refused (a .a) (a .s .now) (a .flags .now) (l .c) (l .found) (l .flags) (l .inv .0) _ (s .ensures) (p .0 .0) (p .1) _ _ (c .before .before .before .before .before .before .before .before .before .before .before .before .before .page-hits .ensures) (w .0 .0) (w .1)
-
-enum-told : tie.Need-enum-told Inv-loop μ-loop
-enum-told c = search needs
+    meeting-refused (c .before .before .before .before .before .before .before .before .before .before .before .before .before .before .before .before .before .before .before .before .before .before .before .before .before .before .before .before .before .args .a) (c .before .before .before .before .before .before .before .before .before .before .before .before .before .before .before .before .before .before .before .before .before .before .before .before .before .before .before .before .before .args .s .now) (c .before .before .before .before .before .before .before .before .before .before .before .before .before .before .before .before .before .before .before .before .before .before .before .before .before .before .before .before .before .args .flags .now) (c .before .before .before .before .before .before .before .before .before .before .before .before .before .before .before .before .before .before .before .before .before .loop .c) (c .before .before .before .before .before .before .before .before .before .before .before .before .before .before .before .before .before .before .before .before .before .loop .found) (c .before .before .before .before .before .before .before .before .before .before .before .before .before .before .before .before .before .before .before .before .before .loop .flags) (c .before .before .before .before .before .before .before .before .before .before .before .before .before .before .before .before .before .before .before .before .before .loop .inv .0) (p .0) (p .1) _ _ (opened-meets (c .before .before .before .before .before .before .before .before .before .before .before .before .before .before .before .before .before .before .before .before .before .before .before .before .before .before .before .before .before .args .a) (c .before .before .before .before .before .before .before .before .before .before .before .before .before .before .before .before .before .before .before .before .before .loop .c .pages) (c .before .before .before .before .before .before .before .before .before .before .before .before .before .before .before .before .before .before .before .before .before .loop .c .shapes) _ _ _ (c .before .before .before .before .before .before .before .before .before .before .before .before .before .before .before .before .before .before .before .before .before .loop .inv .1 (p .0) (p .1)) (c .before .before .before .before .before .before .before .before .before .before .before .before .before .page-hits .ensures (p .0) (p .1))) (w .0 .0) (w .1)
 
 same-length-6 : tie.Need-same-length-6 Inv-loop μ-loop
-same-length-6 c = c .before .before .before .loop .inv .1
+same-length-6 c = c .before .before .loop .inv .2
 
 same-length-7 : tie.Need-same-length-7 Inv-loop μ-loop
-same-length-7 c = c .before .before .before .loop .inv .2
+same-length-7 c = c .before .before .loop .inv .3
 
 same-length-8 : tie.Need-same-length-8 Inv-loop μ-loop
-same-length-8 c = c .before .before .before .loop .inv .3
+same-length-8 c = c .before .before .loop .inv .4
 
 same-length-9 : tie.Need-same-length-9 Inv-loop μ-loop
-same-length-9 c = c .before .before .before .loop .inv .4
+same-length-9 c = c .before .before .loop .inv .5
 
 same-length-10 : tie.Need-same-length-10 Inv-loop μ-loop
-same-length-10 c = c .before .before .before .loop .inv .0 .long
+same-length-10 c = c .before .before .loop .inv .0 .long
 
 returns-2 : tie.Need-returns-2 Inv-loop μ-loop
-returns-2 c =
-    let a = c .before .before .before .before .before .before .before .before .before .before .args in
-    let l = c .before .before .before .loop in
-    meeting-end (a .a) (a .s .now) (a .flags .now) (l .c) (l .found) (l .flags) (l .inv .0) _ (c .before .before .step .ensures) (c .enum-told .given .1)
-
-enum-known-w-2 : tie.Need-enum-known-w-2 Inv-loop μ-loop
-enum-known-w-2 c = search needs
-
-same-length-11 : tie.Need-same-length-11 Inv-loop μ-loop
-same-length-11 c = c .before .before .before .before .loop .inv .1
-
-same-length-12 : tie.Need-same-length-12 Inv-loop μ-loop
-same-length-12 c = c .before .before .before .before .loop .inv .2
-
-same-length-13 : tie.Need-same-length-13 Inv-loop μ-loop
-same-length-13 c = c .before .before .before .before .loop .inv .3
-
-same-length-14 : tie.Need-same-length-14 Inv-loop μ-loop
-same-length-14 c = c .before .before .before .before .loop .inv .4
-
-same-length-15 : tie.Need-same-length-15 Inv-loop μ-loop
-same-length-15 c = c .before .before .before .before .loop .inv .0 .long
-
-returns-3 : tie.Need-returns-3 Inv-loop μ-loop
-returns-3 c =
-    let a = c .before .before .before .before .before .before .before .before .before .before .before .args in
-    let l = c .before .before .before .before .loop in
-    let w = c .before .w2 .given in
-    meeting-never (a .a) (a .s .now) (a .flags .now) (l .c) (l .found) (l .flags) (l .inv .0) _ (c .before .before .before .step .ensures) (w .0 .0) (w .1)
+returns-2 c = meeting-end (c .before .before .before .before .before .before .before .before .before .before .args .a) (c .before .before .before .before .before .before .before .before .before .before .args .s .now) (c .before .before .before .before .before .before .before .before .before .before .args .flags .now) (c .before .before .loop .c) (c .before .before .loop .found) (c .before .before .loop .flags) (c .before .before .loop .inv .0) (ahead-stop _ _ _ (c .before .before .loop .inv .0 .ahead) (sym (c .before .at-end .ensures) ∙ not-false _ (c .if1 .left)))
 
 pub walk-hits-spec : {M : Type 1} → statement M
 walk-hits-spec =
@@ -164,12 +146,14 @@ walk-hits-spec =
     (tie.spec
     Inv-loop
     μ-loop
+    next-met-requires
     loop-holds
-    step-requires
-    enum-known-p
+    at-end-requires
     page-hits-requires
     enum-known-n
     add-found
+    glance-requires
+    next-met-requires-2
     loop-less
     loop-again
     enum-known-w
@@ -179,17 +163,9 @@ walk-hits-spec =
     same-length-4
     same-length-5
     returns
-    enum-told
     same-length-6
     same-length-7
     same-length-8
     same-length-9
     same-length-10
-    returns-2
-    enum-known-w-2
-    same-length-11
-    same-length-12
-    same-length-13
-    same-length-14
-    same-length-15
-    returns-3)
+    returns-2)

@@ -1,0 +1,82 @@
+// The rules of the block at a cursor, over any bytes: that it is present, its kind, and what its kind asks for.
+ghost use mathlib.Core.Path.{_≡_};
+ghost use Prim.Native.Nat.{_+_, _≤_};
+ghost use lib.ListN.{length};
+ghost use Rattle.answer.specs.Rule.{judged, passed};
+ghost use Rattle.frame.specs.Step.{pageStep, endStep, kindStep, stepOf};
+use crate::cursor::Cursor;
+use crate::head::head_rules;
+use answer::Refusal;
+use answer::Verdict;
+use answer::table::COUNTS;
+use answer::table::KIND;
+use answer::table::LENGTH;
+use answer::table::MANY;
+use le::block::Block;
+use le::block::block_in;
+use le::block::present;
+use le::number::u32_at;
+
+// A page block.
+fn page_rules(s: &[u8], c: Cursor, b: Block) -> Verdict
+    requires { ⌜ b .body + b .len ≤ length (now s) ⌝ }
+    ensures { λ r. ⌜ judged r ≡ passed (pageStep (now (s .entry)) c b) ⌝ }
+{
+    let pages = c.pages;
+    let body = b.body;
+    let len = b.len;
+    if 1024 <= pages {
+        return Verdict::Refused(Refusal::because(MANY));
+    }
+    let end = body + len;
+    head_rules(c.edition, &s[body..end])
+}
+
+// The end block.
+fn end_rules(s: &[u8], c: Cursor, b: Block) -> Verdict
+    requires { ⌜ b .body + b .len ≤ length (now s) ⌝ }
+    ensures { λ r. ⌜ judged r ≡ passed (endStep (now (s .entry)) c b) ⌝ }
+{
+    let body = b.body;
+    let len = b.len;
+    let pages = c.pages;
+    let shapes = c.shapes;
+    if len != 8 {
+        return Verdict::Refused(Refusal::because(LENGTH));
+    }
+    if u32_at(s, body) != pages {
+        return Verdict::Refused(Refusal::because(COUNTS));
+    }
+    if u32_at(s, body + 4) != shapes {
+        return Verdict::Refused(Refusal::because(COUNTS));
+    }
+    Verdict::of(body + 8 == s.len(), LENGTH)
+}
+
+// A block that is present, by its kind.
+fn kind_rules(s: &[u8], c: Cursor, b: Block) -> Verdict
+    requires { ⌜ b .body + b .len ≤ length (now s) ⌝ }
+    ensures { λ r. ⌜ judged r ≡ passed (kindStep (now (s .entry)) c b) ⌝ }
+{
+    let kind = b.kind;
+    if kind == 2 {
+        return page_rules(s, c, b);
+    }
+    if kind == 3 {
+        return end_rules(s, c, b);
+    }
+    Verdict::Refused(Refusal::because(KIND))
+}
+
+// The block at a cursor. A refusal's page is the number of pages before it.
+pub fn block_rules(s: &[u8], c: Cursor) -> Verdict
+    requires { ⌜ c .pages ≤ 1024 ⌝ }
+    ensures { λ r. ⌜ judged r ≡ passed (stepOf (now (s .entry)) c) ⌝ }
+{
+    let at = c.at;
+    let page = c.pages as u32;
+    if present(s, at) {
+        return kind_rules(s, c, block_in(s, at)).on_page(page);
+    }
+    Verdict::Refused(Refusal::because(LENGTH)).on_page(page)
+}
