@@ -6,6 +6,7 @@ pub mod Sampled
 pub mod SoundFiles
 pub mod Writings
 pub mod Numbers
+pub mod CallNumbers
 pub mod Fetched
 pub mod FirstDemand
 pub mod SecondDemand

@@ -1,20 +1,15 @@
 -- Which refusal numbers a service can give: the lists of document 01's "Order". Assumes nothing.
 use Prim.Native.Nat.{ℕ}
 use mathlib.Core.Path.{_≡_}
-use mathlib.Core.Bool.{Bool, true, false, _||_}
+use mathlib.Core.Bool.{true}
 use mathlib.Core.List.{List, [], _∷_, _++_}
-use lib.Dec.{eqb}
 use Rattle.answer.specs.declared.Refusal.{Refusal}
 use Rattle.answer.specs.Outcome.{Out, refused}
+use Rattle.search.specs.Listed.{listed}
 
--- a number is one of these
-unfoldable pub oneOf : ℕ → List ℕ → Bool
-oneOf n [] = false
-oneOf n (m ∷ ms) = eqb n m || oneOf n ms
-
--- whatever refusal an outcome is, its number is one of these
+-- whatever refusal an outcome is, its number is listed here
 pub record Gives {A : Type 0} (ns : List ℕ) (o : Out A) : Type 0 where
-  pub number : (w : Refusal) → o ≡ refused w → oneOf (w .number) ns ≡ true
+  pub number : (w : Refusal) → o ≡ refused w → listed (w .number) ns ≡ true
 
 -- "Column write: 3, 2"
 abbrev pub columnWrite : List ℕ
@@ -52,10 +47,11 @@ search = 1 ∷ check ++ (2 ∷ [])
 abbrev pub count : List ℕ
 count = 1 ∷ check
 
--- "Fetch: frame, 17, contents of its page, 2"
+-- a shape's place: frame, 17
 abbrev pub place : List ℕ
 place = frame ++ (17 ∷ [])
 
+-- "Fetch: frame, 17, contents of its page, 2"
 abbrev pub fetch : List ℕ
 fetch = place ++ contents ++ (2 ∷ [])
 
@@ -63,12 +59,22 @@ fetch = place ++ contents ++ (2 ∷ [])
 abbrev pub rows : List ℕ
 rows = place ++ (2 ∷ [])
 
--- "Writer: open (2), page (18, 3, 6, 11, 12, 13, 14, 15, 2), close (18, 3, 2)"
+-- a page's block, with a room of its own: 6, 11, 12, 13, 14, 15, 2
+abbrev pub pageBlock : List ℕ
+pageBlock = 6 ∷ 11 ∷ 12 ∷ 13 ∷ 14 ∷ 15 ∷ 2 ∷ []
+
+-- "Writer: open (2)"
 abbrev pub writerOpen : List ℕ
 writerOpen = 2 ∷ []
 
+-- "page (18, 3, 6, 11, 12, 13, 14, 15, 2)"
 abbrev pub writerPage : List ℕ
-writerPage = 18 ∷ 3 ∷ 6 ∷ 11 ∷ 12 ∷ 13 ∷ 14 ∷ 15 ∷ 2 ∷ []
+writerPage = 18 ∷ 3 ∷ pageBlock
 
+-- "close (18, 3, 2)"
 abbrev pub writerClose : List ℕ
 writerClose = 18 ∷ 3 ∷ 2 ∷ []
+
+-- one value a call through four words: 2 where there are fewer, and then as one value a call
+abbrev pub stepThroughWords : List ℕ
+stepThroughWords = 2 ∷ columnStep

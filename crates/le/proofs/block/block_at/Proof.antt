@@ -2,7 +2,7 @@
 use mathlib.Core.Path.{sym, _∙_}
 use native.Mathlib.Omega.{arith}
 use borrow.Author.Needs.{needs}
-use Rattle.le.specs.Block.{said}
+use Rattle.le.specs.Block.{saidBlock}
 use Rattle.le.proofs.Blocks.{block-cut, block-short, block-found}
 use Rattle.le.proofs.block.block_at.Statement.{statement}
 use Rattle.le.proofs.block.block_at.Tie as tie
@@ -41,7 +41,7 @@ u16-at-requires : tie.Need-u16-at-requires
 u16-at-requires c κs = search needs
 
 returns-4 : tie.Need-returns-4
-unfolding said
+unfolding saidBlock
 returns-4 c = sym (block-found _ _ _ _ (c .u16-at .ensures .0) (c .before .before .u32-at .ensures .0) (omega arith))
 
 pub block-at-spec : {M : Type 1} → statement M
