@@ -27,3 +27,10 @@ both-r false b e = absurd (subst T (sym e) tt)
 pub and-false : (a b : Bool) → b ≡ false → (a && b) ≡ false
 and-false true b e = e
 and-false false b e = refl
+
+-- by the ways through both: the first decides, or it passes and the second does
+pub first-fails : (a b : Bool) → a ≡ false → false ≡ (a && b)
+first-fails a b p = simp p
+
+pub then : (a b r : Bool) → a ≡ true → r ≡ b → r ≡ (a && b)
+then a b r p q = simp p q

@@ -2,3 +2,4 @@ pub mod Outcomes
 pub mod Both
 pub mod Determined
 pub mod Rules
+pub mod Alls

@@ -2,3 +2,4 @@ pub mod Table
 pub mod Refusal
 pub mod Outcome
 pub mod Rule
+pub mod Every

@@ -17,8 +17,8 @@ use Rattle.answer.specs.declared.Refusal.{Refusal}
 use Rattle.answer.specs.declared.Filled.{Filled}
 use Rattle.answer.specs.declared.Filled.the-variants.{Start, Refused}
 use Rattle.answer.proofs.Outcomes.{met, unmet, never, ok-inj, need-ok, fills-refused, fills-ok}
-use Rattle.le.specs.Number.{number, field}
-use Rattle.le.proofs.Numbers.{Bytes, number-lt}
+use Rattle.le.specs.Number.{number, field, Bytes}
+use Rattle.le.proofs.Numbers.{number-lt}
 use Rattle.entry.specs.Entry.{after, values}
 use Rattle.entry.proofs.Reading.{length-values}
 use Rattle.column.specs.Column.{whole}

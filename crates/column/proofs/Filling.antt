@@ -13,7 +13,8 @@ use Rattle.entry.specs.Entry.{sizeAt, valueAt, after, values}
 use Rattle.entry.proofs.Reading.{size-le, after-step, values-step}
 use Rattle.column.specs.declared.Position.{Position}
 use Rattle.column.specs.Read.{saidBy, endOf}
-use Rattle.column.specs.Filling.{position, toCome, endFrom, Went}
+use Rattle.column.specs.Position.{position}
+use Rattle.column.specs.Filling.{toCome, endFrom, Went}
 
 module _ {P b n : ℕ} {p : Position} {d : List ℕ} where
   pub went-none : p .given ≤ n → Went P b n p d p d

@@ -11,43 +11,43 @@ use Rattle.answer.specs.Outcome.{Out, ok}
 use Rattle.le.specs.Number.{number, bytesOf, field}
 use Rattle.le.proofs.Bytes.{length-bytesOf, number-of-fit}
 use Rattle.entry.specs.Fields.{Fld, fld, pack, bits}
-use Rattle.entry.specs.Entry.{Says, after, values}
+use Rattle.entry.specs.Entry.{EntriesSay, after, values, Below, below-none, below-more}
 use Rattle.entry.proofs.Fields.{Fit, fit-more, pack-lt, first, past}
-use Rattle.entry.proofs.Entries.{Below, below-none, below-more, entries-say, says-fit}
+use Rattle.entry.proofs.Entries.{entries-say, says-fit}
 use Rattle.entry.proofs.Reading.{Reads, reads-all}
 use Rattle.width.specs.Width.{widthOf}
 use Rattle.width.proofs.Sizes.{width-least, size-most, length-zs}
-use Rattle.column.specs.Column.{whole, asBytes, opened, IsColumn, column-none, column-some, columnAt, encodeAt, encode}
+use Rattle.column.specs.Column.{whole, asBytes, columnWith, IsColumn, column-none, column-some, columnAt, encodeAt, encode}
 use Rattle.column.specs.Read.{saidBy, endOf, closed, decodeOf}
 use Rattle.column.proofs.Decoding.{decode-none, decode-closed, closed-good}
 use Rattle.column.proofs.Writing.{column-bits, encode-length, encode-none}
 
 -- ---- one column with values
 
-module _ (P n v : ℕ) (vs : List ℕ) (fs : List Fld) (hn : n ≤ P) (hP : P < 256) (hv : v < 2 ^ P) (hb : Below P vs) (says : Says P n v vs fs) where
+module _ (P n v : ℕ) (vs : List ℕ) (fs : List Fld) (hn : n ≤ P) (hP : P < 256) (hv : v < 2 ^ P) (hb : Below P vs) (says : EntriesSay P n v vs fs) where
   c : List Fld
-  c = opened P n v fs
+  c = columnWith P n v fs
 
   s : List ℕ
-  s = asBytes (opened P n v fs)
+  s = asBytes (columnWith P n v fs)
 
   n8 : n < 2 ^ 8
   n8 = omega arith
 
-  c-lt : pack (opened P n v fs) < 2 ^ bits (opened P n v fs)
+  c-lt : pack (columnWith P n v fs) < 2 ^ bits (columnWith P n v fs)
   c-lt = pack-lt (fit-more n8 (fit-more hv (says-fit hb says)))
 
-  number-s : number s ≡ pack (opened P n v fs)
+  number-s : number s ≡ pack (columnWith P n v fs)
   unfolding s asBytes
   number-s =
-      let l : bits (opened P n v fs) ≤ 8 * whole (bits (opened P n v fs)) = omega arith in
-      number-of-fit (whole (bits (opened P n v fs))) (pack (opened P n v fs)) (lt-of-lt-of-le c-lt (pow-mono l))
+      let l : bits (columnWith P n v fs) ≤ 8 * whole (bits (columnWith P n v fs)) = omega arith in
+      number-of-fit (whole (bits (columnWith P n v fs))) (pack (columnWith P n v fs)) (lt-of-lt-of-le c-lt (pow-mono l))
 
-  length-s : length s ≡ whole (bits (opened P n v fs))
+  length-s : length s ≡ whole (bits (columnWith P n v fs))
   unfolding s asBytes
-  length-s = length-bytesOf (whole (bits (opened P n v fs))) (pack (opened P n v fs))
+  length-s = length-bytesOf (whole (bits (columnWith P n v fs))) (pack (columnWith P n v fs))
 
-  at0 : number s / 2 ^ 0 ≡ pack (opened P n v fs)
+  at0 : number s / 2 ^ 0 ≡ pack (columnWith P n v fs)
   at0 = div-one (number s) ∙ number-s
 
   at8 : number s / 2 ^ 8 ≡ pack (fld v P ∷ fs)
@@ -59,13 +59,13 @@ module _ (P n v : ℕ) (vs : List ℕ) (fs : List Fld) (hn : n ≤ P) (hP : P < 
   value-first : field (number s) 8 P ≡ v
   value-first = first (number s) 8 v P fs hv at8
 
-  bits-c : bits (opened P n v fs) ≡ 8 + P + bits fs
+  bits-c : bits (columnWith P n v fs) ≡ 8 + P + bits fs
   unfolding bits
   bits-c = sym (add-assoc 8 P (bits fs))
 
   width-s : getD s 0 0 ≡ n
   unfolding s asBytes bytesOf
-  width-s = byte-first (whole (bits (opened P n v fs))) (pack (opened P n v fs)) (omega (arith, bits-c)) ∙ sym (ap (λ (x : ℕ). x % 256) (div-one (number s) ∙ number-s)) ∙ first (number s) 0 n 8 (fld v P ∷ fs) n8 at0
+  width-s = byte-first (whole (bits (columnWith P n v fs))) (pack (columnWith P n v fs)) (omega (arith, bits-c)) ∙ sym (ap (λ (x : ℕ). x % 256) (div-one (number s) ∙ number-s)) ∙ first (number s) 0 n 8 (fld v P ∷ fs) n8 at0
     where
       byte-first : (k x : ℕ) → 0 < k → getD (bytesOf k x) 0 0 ≡ x % 256
       byte-first zero x h = absurd (omega arith)
@@ -81,7 +81,7 @@ module _ (P n v : ℕ) (vs : List ℕ) (fs : List Fld) (hn : n ≤ P) (hP : P < 
   unfolding saidBy
   said = rw (width-s, value-first, less-one) (ap (λ (l : List ℕ). v ∷ l) (read-all .got))
 
-  ends : endOf P s (suc (length vs)) ≡ bits (opened P n v fs)
+  ends : endOf P s (suc (length vs)) ≡ bits (columnWith P n v fs)
   unfolding endOf
   ends = rw (width-s, less-one) (read-all .ends ∙ sym bits-c)
 
@@ -90,7 +90,7 @@ module _ (P n v : ℕ) (vs : List ℕ) (fs : List Fld) (hn : n ≤ P) (hP : P < 
       let w : getD s 0 0 ≤ P = rw width-s hn in
       decode-closed P s (suc (length vs)) (λ q. omega arith) (λ q. omega (arith, length-s, bits-c)) w
       ∙ ap₂ (λ (e : ℕ) (l : List ℕ). closed s e (ok l)) ends said
-      ∙ closed-good s (bits (opened P n v fs)) (ok (v ∷ vs)) (sym length-s) (rw number-s c-lt)
+      ∙ closed-good s (bits (columnWith P n v fs)) (ok (v ∷ vs)) (sym length-s) (rw number-s c-lt)
 
 -- ---- what is a column of a list is decoded as that list
 

@@ -14,22 +14,23 @@ use Rattle.answer.specs.Table as Table
 use Rattle.answer.specs.Refusal.{because}
 use Rattle.answer.specs.Outcome.{Out, refused, ok}
 use Rattle.answer.proofs.Outcomes.{met, unmet}
-use Rattle.le.specs.Number.{number, bytesOf}
-use Rattle.le.specs.Put.{Put, putField}
-use Rattle.le.proofs.Numbers.{Bytes, number-lt}
+use Rattle.le.specs.Number.{number, bytesOf, Bytes}
+use Rattle.le.proofs.Puts.{Put}
+use Rattle.le.specs.Put.{putField}
+use Rattle.le.proofs.Numbers.{number-lt}
 use Rattle.le.proofs.Bytes.{length-bytesOf, bytes-number}
 use Rattle.entry.specs.Fields.{Fld, fld, pack, bits, putFields}
-use Rattle.entry.specs.Entry.{entries, entryOf}
+use Rattle.entry.specs.Entry.{entries, entryOf, Below, below-none, below-more}
 use Rattle.entry.proofs.Fields.{Fit, fit-none, fit-more, Narrow, narrow-none, narrow-more, fit-append, narrow-append, pack-append, bits-append, put-append, put-fields, length-puts, bytes-puts}
-use Rattle.entry.proofs.Entries.{Below, below-none, below-more, below-drop, entries-cons, entries-say, says-fit, says-narrow}
+use Rattle.entry.proofs.Entries.{below-drop, entries-cons, entries-say, says-fit, says-narrow}
 use Rattle.width.specs.Width.{zsOf, S, widthOf}
 use Rattle.width.proofs.Sizes.{bits-S, bits-le, length-zs, size-most, zs-split}
-use Rattle.column.specs.Column.{whole, asBytes, opened, columnAt, encodeAt, encode}
+use Rattle.column.specs.Column.{whole, asBytes, columnWith, columnAt, encodeAt, encode}
 use Rattle.column.specs.Write.{writeOf}
 
 -- ---- the fields of a column, and its size
 
-pub column-some : (P n : ℕ) (vs : List ℕ) → 0 < length vs → columnAt P n vs ≡ opened P n (getD vs 0 0) (entries P n (getD vs 0 0) (drop 1 vs))
+pub column-some : (P n : ℕ) (vs : List ℕ) → 0 < length vs → columnAt P n vs ≡ columnWith P n (getD vs 0 0) (entries P n (getD vs 0 0) (drop 1 vs))
 unfolding columnAt
 column-some P n [] h = absurd (omega arith)
 column-some P n (v ∷ vs) h = refl

@@ -12,14 +12,10 @@ use borrow.Author.Tests.{lt-ltb, le-ltb, ltb-true, ltb-false}
 use Rattle.entry.specs.Step.{zOf, marker}
 use Rattle.le.specs.Put.{putField}
 use Rattle.entry.specs.Fields.{Fld, fld, bits, putFields}
-use Rattle.entry.specs.Entry.{Says, says-none, says-step, says-full, entries, entryOf}
+use Rattle.entry.specs.Entry.{Below, below-none, below-more, EntriesSay, says-none, says-step, says-full, entries, entryOf}
 use Rattle.entry.proofs.Fields.{Fit, fit-none, fit-more, Narrow, narrow-none, narrow-more}
 
--- all values are patterns of P bits
-pub data Below (P : ℕ) : List ℕ → Type 0 where
-  below-none : Below P []
-  below-more : {v : ℕ} {vs : List ℕ} → v < 2 ^ P → Below P vs → Below P (v ∷ vs)
-
+-- numbers below 2 ^ P are such patterns
 pub all-below : (P : ℕ) (vs : List ℕ) → ((i : ℕ) → getD vs i 0 < 2 ^ P) → Below P vs
 all-below P [] h = below-none
 all-below P (v ∷ vs) h = below-more (h 0) (all-below P vs (λ i. h (suc i)))
@@ -47,12 +43,12 @@ entries-cons P n a v vs = go (ltb (zOf P a v) (marker n)) refl
     go false e = let h = ltb-false _ _ e in entries-full P n a v vs h ∙ sym (ap (λ (l : List Fld). l ++ entries P n v vs) (entries-full P n a v [] h))
 
 -- the writer's entries say the values
-pub entries-say : (P n a : ℕ) (vs : List ℕ) → Says P n a vs (entries P n a vs)
+pub entries-say : (P n a : ℕ) (vs : List ℕ) → EntriesSay P n a vs (entries P n a vs)
 unfolding entries
 entries-say P n a [] = says-none
 entries-say P n a (v ∷ vs) = go (ltb (zOf P a v) (marker n)) refl (entries-say P n v vs)
   where
-    go : (t : Bool) → ltb (zOf P a v) (marker n) ≡ t → Says P n v vs (entries P n v vs) → Says P n a (v ∷ vs) (entries P n a (v ∷ vs))
+    go : (t : Bool) → ltb (zOf P a v) (marker n) ≡ t → EntriesSay P n v vs (entries P n v vs) → EntriesSay P n a (v ∷ vs) (entries P n a (v ∷ vs))
     go true e r = let h = ltb-true _ _ e in rw (entries-short P n a v vs h) (says-step h r)
     go false e r = let h = ltb-false _ _ e in rw (entries-full P n a v vs h) (says-full r)
 
@@ -60,13 +56,13 @@ pub short-lt : (n z : ℕ) → z < marker n → z < 2 ^ n
 short-lt n z h = omega (arith, ones-lt n)
 
 -- fields that say patterns fit their bits
-pub says-fit : {P n a : ℕ} {vs : List ℕ} {fs : List Fld} → Below P vs → Says P n a vs fs → Fit fs
+pub says-fit : {P n a : ℕ} {vs : List ℕ} {fs : List Fld} → Below P vs → EntriesSay P n a vs fs → Fit fs
 says-fit below-none says-none = fit-none
 says-fit {n = n} (below-more h b) (says-step l r) = fit-more (short-lt n _ l) (says-fit b r)
 says-fit {n = n} (below-more h b) (says-full r) = fit-more (ones-lt n) (fit-more h (says-fit b r))
 
 -- and none is over 64 bits where width and pattern are not
-pub says-narrow : {P n a : ℕ} {vs : List ℕ} {fs : List Fld} → n ≤ 64 → P ≤ 64 → Says P n a vs fs → Narrow fs
+pub says-narrow : {P n a : ℕ} {vs : List ℕ} {fs : List Fld} → n ≤ 64 → P ≤ 64 → EntriesSay P n a vs fs → Narrow fs
 says-narrow h k says-none = narrow-none
 says-narrow h k (says-step l r) = narrow-more h (says-narrow h k r)
 says-narrow h k (says-full r) = narrow-more h (narrow-more k (says-narrow h k r))

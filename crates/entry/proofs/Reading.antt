@@ -1,24 +1,22 @@
 -- Reading undoes saying: fields that say values are read as those values, and what is read was said by fields that stand there. Over the
 -- pattern size P, at every width. Assumes nothing.
-use mathlib.Core.Path.{_≡_, refl, sym, ap, ap₂, _∙_, subst}
+use mathlib.Core.Path.{_≡_, refl, sym, ap, ap₂, _∙_}
 use mathlib.Core.List.{List, [], _∷_}
-use mathlib.Core.Bool.{Bool, true, false}
 use mathlib.Core.Logic.{_⊎_, inl, inr, ⊎-elim}
 use Prim.Native.Nat.{ℕ, zero, suc, _+_, _-_, _*_, _/_, _%_, _^_, _≤_, _<_}
 use native.Mathlib.Nat.{add-zero, add-assoc, add-comm, mod-one, mod-lt, lt-of-lt-of-le, le-antisymm}
 use native.Mathlib.Decide.{decLt}
 use native.Mathlib.Omega.{arith}
-use lib.Dec.{ltb}
 use lib.ListN.{length, take}
 use lib.Pow.{pow-pos, pow-mono, ones-lt, le-ones, shr-shr, mod-pow-add}
 use borrow.Author.Tests.{lt-ltb, le-ltb}
 use Rattle.le.specs.Number.{field}
-use Rattle.entry.specs.Step.{pick, zOf, unzigzag, marker}
+use Rattle.entry.specs.Step.{zOf, unzigzag, marker}
 use Rattle.entry.specs.Fields.{Fld, fld, pack, bits}
-use Rattle.entry.specs.Entry.{Says, says-none, says-step, says-full, sizeAt, valueAt, after, values}
+use Rattle.entry.specs.Entry.{EntriesSay, says-none, says-step, says-full, sizeAt, valueAt, after, values, Below, below-none, below-more}
 use Rattle.entry.proofs.Steps.{next-back, z-back}
 use Rattle.entry.proofs.Fields.{first, past}
-use Rattle.entry.proofs.Entries.{Below, below-none, below-more, short-lt}
+use Rattle.entry.proofs.Entries.{short-lt}
 
 -- ---- one entry, by its field e
 
@@ -117,7 +115,7 @@ reads-more {P} {b} {n} {at} {a} {v} {sz} {vs} {fs} {gs} hv hs hb r = record {
   ends = ap (λ (s : ℕ). after P b n (length vs) (at + s)) hs ∙ r .ends ∙ add-assoc at sz (bits fs) ∙ ap (λ (x : ℕ). at + x) (sym hb);
 }
 
-pub reads-all : (P b n at a : ℕ) {vs : List ℕ} {fs : List Fld} → a < 2 ^ P → Below P vs → Says P n a vs fs → b / 2 ^ at ≡ pack fs → Reads P b n at a vs fs
+pub reads-all : (P b n at a : ℕ) {vs : List ℕ} {fs : List Fld} → a < 2 ^ P → Below P vs → EntriesSay P n a vs fs → b / 2 ^ at ≡ pack fs → Reads P b n at a vs fs
 unfolding values after bits
 reads-all P b n at a ha below-none says-none h = record { got = refl; ends = sym (add-zero at) }
 reads-all P b n at a ha (below-more {v = v} hv hb) (says-step {vs = vs} {fs = fs} l r) h =
@@ -142,7 +140,7 @@ reads-all P b n at a ha (below-more {v = v} hv hb) (says-full {vs = vs} {fs = fs
 
 pub record Said (P b n at a k : ℕ) : Type 0 where
   pub fields : List Fld
-  pub says : Says P n a (values P b n k at a) fields
+  pub says : EntriesSay P n a (values P b n k at a) fields
   pub below : Below P (values P b n k at a)
   pub ends : after P b n k at ≡ at + bits fields
   pub there : b / 2 ^ at % 2 ^ bits fields ≡ pack fields

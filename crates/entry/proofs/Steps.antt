@@ -1,7 +1,7 @@
 -- Laws of steps and their zigzag, over the pattern size P: each undoes the other, and what the code computes is the definition. Assumes nothing.
-use mathlib.Core.Path.{_≡_, refl, sym, ap, _∙_, subst}
+use mathlib.Core.Path.{_≡_, refl, sym, ap, _∙_}
 use mathlib.Core.Bool.{Bool, true, false}
-use mathlib.Core.Logic.{_⊎_, inl, inr, ⊎-elim}
+use mathlib.Core.Logic.{inl, inr, ⊎-elim}
 use Prim.Native.Nat.{ℕ, _+_, _-_, _*_, _/_, _%_, _^_, _≤_, _<_}
 use native.Mathlib.Nat.{mod-lt, mod-eq-of-lt, add-mod-mod, add-mod-right, add-sub-of-le}
 use native.Mathlib.Decide.{decLt}
@@ -9,7 +9,7 @@ use native.Mathlib.Omega.{arith}
 use lib.Dec.{ltb, eqb}
 use lib.Pow.{pow-pos, pow-add, ones-split, high, ones-lt}
 use borrow.Author.Tests.{lt-ltb, le-ltb, eq-eqb, ne-eqb, ltb-true, ltb-false, eqb-true, eqb-false}
-use Rattle.entry.specs.Step.{pick, step, zigzag, unzigzag, zOf, marker}
+use Rattle.entry.specs.Step.{step, zigzag, unzigzag, zOf, marker}
 
 -- ---- the two halves
 

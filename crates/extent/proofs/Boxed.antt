@@ -7,19 +7,14 @@ use Prim.Native.Nat.{ℕ, _+_, _≤_, _<_}
 use native.Mathlib.Omega.{arith}
 use lib.ListN.{length, getD, take, drop, length-take, length-drop}
 use Rattle.answer.proofs.Both.{both}
+use Rattle.answer.proofs.Alls.{all-at}
 use Rattle.extent.specs.Rank.{finite, allFinite, atMost}
-use Rattle.extent.specs.Boxes.{Bounds, FiniteBox, inOrder, goodForm, Holds, boxOf}
+use Rattle.extent.specs.Boxes.{Bounds, FiniteBox, inOrder, goodForm, HoldsPoint, boxOf}
+use Rattle.extent.specs.FirstMet.{AtMost, Under, AtLeast, Above, Met, Boxed}
 use Rattle.extent.proofs.Ranks.{at-most-trans}
-use Rattle.extent.proofs.Finite.{all-finite-at, four-finite}
-use Rattle.extent.proofs.Firsts.{Met, AtMost, Below, AtLeast, Above, least-met, greatest-met, least-unique, greatest-unique, met-part}
+use Rattle.extent.proofs.Finite.{four-finite}
+use Rattle.extent.proofs.Firsts.{least-met, greatest-met, least-unique, greatest-unique, met-part}
 use Rattle.extent.proofs.Forms.{order-good}
-
--- each of the four is the first met of its least or greatest
-pub record Boxed (xs ys : List ℕ) (p : Bounds) : Type 0 where
-  pub least-x : Met AtMost Below xs (p .least-x)
-  pub least-y : Met AtMost Below ys (p .least-y)
-  pub greatest-x : Met AtLeast Above xs (p .greatest-x)
-  pub greatest-y : Met AtLeast Above ys (p .greatest-y)
 
 pub box-met : (xs ys : List ℕ) → 0 < length xs → 0 < length ys → Boxed xs ys (boxOf xs ys)
 unfolding boxOf
@@ -40,7 +35,7 @@ pub first-met : (xs ys : List ℕ) (p : Bounds) → 0 < length xs → 0 < length
 first-met xs ys p h k b = boxed-unique xs ys p (boxOf xs ys) b (box-met xs ys h k)
 
 -- it holds each vertex
-pub box-holds : (xs ys : List ℕ) (i : ℕ) → i < length xs → length ys ≡ length xs → Holds (boxOf xs ys) (getD xs i 0) (getD ys i 0)
+pub box-holds : (xs ys : List ℕ) (i : ℕ) → i < length xs → length ys ≡ length xs → HoldsPoint (boxOf xs ys) (getD xs i 0) (getD ys i 0)
 box-holds xs ys i h l =
     let k : i < length ys = omega arith in
     let b = box-met xs ys (omega arith) (omega arith) in
@@ -48,20 +43,20 @@ box-holds xs ys i h l =
 
 -- what was met in a list of finite patterns is finite
 met-finite : (R S : ℕ → ℕ → Type 0) (l : List ℕ) (v : ℕ) → allFinite l ≡ true → Met R S l v → finite v ≡ true
-met-finite R S l v f m = ap finite (m .found) ∙ all-finite-at l (m .place) f (m .inside)
+met-finite R S l v f m = ap finite (m .found) ∙ all-at finite l (m .place) 0 f (m .inside)
 
 pub box-finite : (xs ys : List ℕ) → 0 < length xs → 0 < length ys → allFinite xs ≡ true → allFinite ys ≡ true → FiniteBox (boxOf xs ys)
 box-finite xs ys h k f g =
     let b = box-met xs ys h k in
     record {
-      least-x = met-finite AtMost Below xs _ f (b .least-x);
-      least-y = met-finite AtMost Below ys _ g (b .least-y);
+      least-x = met-finite AtMost Under xs _ f (b .least-x);
+      least-y = met-finite AtMost Under ys _ g (b .least-y);
       greatest-x = met-finite AtLeast Above xs _ f (b .greatest-x);
       greatest-y = met-finite AtLeast Above ys _ g (b .greatest-y);
     }
 
 -- least is at most greatest: the first vertex lies between
-met-between : (l : List ℕ) (v w : ℕ) → 0 < length l → Met AtMost Below l v → Met AtLeast Above l w → atMost v w ≡ true
+met-between : (l : List ℕ) (v w : ℕ) → 0 < length l → Met AtMost Under l v → Met AtLeast Above l w → atMost v w ≡ true
 met-between l v w h m n = at-most-trans v (getD l 0 0) w (m .best 0 h) (n .best 0 h)
 
 pub box-good : (xs ys : List ℕ) → 0 < length xs → length ys ≡ length xs → allFinite xs ≡ true → allFinite ys ≡ true → goodForm (boxOf xs ys) ≡ true
@@ -90,8 +85,8 @@ covers-part xs ys i k h m l =
     let b = box-met xs ys (omega arith) (omega arith) in
     let c = box-met (take k (drop i xs)) (take k (drop i ys)) (simp (length-take, length-drop) (omega arith)) (simp (length-take, length-drop) (omega arith)) in
     record {
-      from-x = met-part AtMost Below xs i k _ _ (b .least-x) (c .least-x);
-      from-y = met-part AtMost Below ys i k _ _ (b .least-y) (c .least-y);
+      from-x = met-part AtMost Under xs i k _ _ (b .least-x) (c .least-x);
+      from-y = met-part AtMost Under ys i k _ _ (b .least-y) (c .least-y);
       to-x = met-part AtLeast Above xs i k _ _ (b .greatest-x) (c .greatest-x);
       to-y = met-part AtLeast Above ys i k _ _ (b .greatest-y) (c .greatest-y);
     }

@@ -1,60 +1,10 @@
--- Finite patterns: of a list, of a choice, of a box. Assumes nothing.
-use mathlib.Core.Path.{_≡_, refl, sym, ap, _∙_}
-use mathlib.Core.Bool.{Bool, true, false, _&&_, cond}
-use mathlib.Core.List.{List, [], _∷_}
-use Prim.Native.Nat.{ℕ, zero, suc, _+_, _≤_, _<_, zero-le, suc-le-suc}
-use native.Mathlib.Nat.{le-of-suc-le-suc}
-use native.Mathlib.Numerals.{add-one}
-use native.Mathlib.Omega.{arith}
-use lib.ListN.{length, getD, take, drop, drop-of-length-le}
-use lib.Seq.{drop-cons}
-use Rattle.answer.proofs.Both.{both, both-l, both-r}
-use Rattle.extent.specs.Rank.{finite, allFinite, below}
+-- Finite patterns: of a choice, of a box. Assumes nothing.
+use mathlib.Core.Path.{_≡_}
+use mathlib.Core.Bool.{Bool, true, false, cond}
+use Prim.Native.Nat.{ℕ}
+use Rattle.extent.specs.Rank.{finite, below}
 use Rattle.extent.specs.Boxes.{Bounds, FiniteBox, fourFinite, lesser, greater, withVertex}
 use Rattle.extent.proofs.Tests.{all-four, four-all}
-
--- ---- lists
-
--- each of them
-pub all-finite-at : (bs : List ℕ) (i : ℕ) → allFinite bs ≡ true → i < length bs → finite (getD bs i 0) ≡ true
-unfolding allFinite
-all-finite-at [] i e h = absurd (omega arith)
-all-finite-at (b ∷ bs) zero e h = both-l (finite b) (allFinite bs) e
-all-finite-at (b ∷ bs) (suc i) e h = all-finite-at bs i (both-r (finite b) (allFinite bs) e) (le-of-suc-le-suc h)
-
-pub finite-all : (bs : List ℕ) → ((i : ℕ) → i < length bs → finite (getD bs i 0) ≡ true) → allFinite bs ≡ true
-unfolding allFinite
-finite-all [] h = refl
-finite-all (b ∷ bs) h = both (h 0 (suc-le-suc zero-le)) (finite-all bs (λ i l. h (suc i) (suc-le-suc l)))
-
-pub all-finite-take : (k : ℕ) (bs : List ℕ) → allFinite bs ≡ true → allFinite (take k bs) ≡ true
-unfolding allFinite
-all-finite-take zero bs e = refl
-all-finite-take (suc k) [] e = refl
-all-finite-take (suc k) (b ∷ bs) e = both (both-l (finite b) (allFinite bs) e) (all-finite-take k bs (both-r (finite b) (allFinite bs) e))
-
-pub all-finite-drop : (i : ℕ) (bs : List ℕ) → allFinite bs ≡ true → allFinite (drop i bs) ≡ true
-unfolding allFinite
-all-finite-drop zero bs e = e
-all-finite-drop (suc i) [] e = refl
-all-finite-drop (suc i) (b ∷ bs) e = all-finite-drop i bs (both-r (finite b) (allFinite bs) e)
-
--- a part
-pub all-finite-part : (i k : ℕ) (bs : List ℕ) → allFinite bs ≡ true → allFinite (take k (drop i bs)) ≡ true
-all-finite-part i k bs e = all-finite-take k (drop i bs) (all-finite-drop i bs e)
-
--- from place i on: none is left, the next one is, the next one is not
-pub finite-none : (bs : List ℕ) (i : ℕ) → length bs ≤ i → allFinite (drop i bs) ≡ true
-unfolding allFinite
-finite-none bs i h = ap allFinite (drop-of-length-le bs h)
-
-pub finite-next : (bs : List ℕ) (i : ℕ) → i < length bs → finite (getD bs i 0) ≡ true → allFinite (drop i bs) ≡ allFinite (drop (i + 1) bs)
-unfolding allFinite
-finite-next bs i h e = ap allFinite (drop-cons bs i 0 h) ∙ ap (λ (t : Bool). t && allFinite (drop (suc i) bs)) e ∙ ap (λ (n : ℕ). allFinite (drop n bs)) (sym (add-one i))
-
-pub finite-not : (bs : List ℕ) (i : ℕ) → i < length bs → finite (getD bs i 0) ≡ false → allFinite (drop i bs) ≡ false
-unfolding allFinite
-finite-not bs i h e = ap allFinite (drop-cons bs i 0 h) ∙ ap (λ (t : Bool). t && allFinite (drop (suc i) bs)) e
 
 -- ---- choices
 

@@ -8,8 +8,9 @@ use native.Mathlib.Nat.{le-of-suc-le-suc}
 use native.Mathlib.Omega.{arith}
 use lib.ListN.{length, getD, take, drop, length-take, length-drop}
 use lib.Seq.{getD-take, getD-drop}
-use Rattle.extent.specs.Rank.{atMost, below, sameValue}
+use Rattle.extent.specs.Rank.{below, sameValue}
 use Rattle.extent.specs.Boxes.{lesser, greater, leastOf, greatestOf}
+use Rattle.extent.specs.FirstMet.{AtMost, Under, AtLeast, Above, Met}
 use Rattle.extent.proofs.Tests.{tri}
 use Rattle.extent.proofs.Ranks.{at-most-refl, at-most-trans, below-at-most, at-most-below, below-trans, below-not-itself, not-below, below-not-same}
 
@@ -20,14 +21,6 @@ pub record Ordered (R S : ℕ → ℕ → Type 0) : Type 0 where
   pub both-weak : (a b c : ℕ) → R a b → R b c → R a c
   pub weak-strict : (a b c : ℕ) → R a b → S b c → S a c
   pub strict-weak : (a b c : ℕ) → S a b → R b c → S a c
-
--- v is an element of the list, first by R among all of them, and strictly first among those before it: no earlier one is equal to it in value
-pub record Met (R S : ℕ → ℕ → Type 0) (l : List ℕ) (v : ℕ) : Type 0 where
-  pub place : ℕ
-  pub inside : place < length l
-  pub found : v ≡ getD l place 0
-  pub best : (i : ℕ) → i < length l → R v (getD l i 0)
-  pub first : (i : ℕ) → i < place → S v (getD l i 0)
 
 module _ (R S : ℕ → ℕ → Type 0) (o : Ordered R S) where
   -- one element
@@ -87,19 +80,7 @@ met-part R S l i k v w m n =
 
 -- ---- least and greatest
 
-abbrev pub AtMost : ℕ → ℕ → Type 0
-AtMost a b = atMost a b ≡ true
-
-abbrev pub Below : ℕ → ℕ → Type 0
-Below a b = below a b ≡ true
-
-abbrev pub AtLeast : ℕ → ℕ → Type 0
-AtLeast a b = atMost b a ≡ true
-
-abbrev pub Above : ℕ → ℕ → Type 0
-Above a b = below b a ≡ true
-
-upward : Ordered AtMost Below
+upward : Ordered AtMost Under
 upward = record { same = at-most-refl; weak = below-at-most; both-weak = at-most-trans; weak-strict = at-most-below; strict-weak = below-trans }
 
 downward : Ordered AtLeast Above
@@ -111,15 +92,15 @@ downward = record {
   strict-weak = λ a b c p q. at-most-below c b a q p;
 }
 
-pub least-met : (a : ℕ) (xs : List ℕ) → Met AtMost Below (a ∷ xs) (leastOf a xs)
+pub least-met : (a : ℕ) (xs : List ℕ) → Met AtMost Under (a ∷ xs) (leastOf a xs)
 unfolding leastOf lesser
-least-met a [] = met-one AtMost Below upward a
+least-met a [] = met-one AtMost Under upward a
 least-met a (x ∷ xs) = go (below x a) refl (least-met x xs) (least-met a xs)
   where
-    go : (t : Bool) → below x a ≡ t → Met AtMost Below (x ∷ xs) (leastOf x xs) → Met AtMost Below (a ∷ xs) (leastOf a xs)
-        → Met AtMost Below (a ∷ x ∷ xs) (leastOf (cond t x a) xs)
-    go true e m n = met-new AtMost Below upward a x (leastOf x xs) xs e m
-    go false e m n = met-old AtMost Below upward a x (leastOf a xs) xs (not-below x a e) n
+    go : (t : Bool) → below x a ≡ t → Met AtMost Under (x ∷ xs) (leastOf x xs) → Met AtMost Under (a ∷ xs) (leastOf a xs)
+        → Met AtMost Under (a ∷ x ∷ xs) (leastOf (cond t x a) xs)
+    go true e m n = met-new AtMost Under upward a x (leastOf x xs) xs e m
+    go false e m n = met-old AtMost Under upward a x (leastOf a xs) xs (not-below x a e) n
 
 pub greatest-met : (a : ℕ) (xs : List ℕ) → Met AtLeast Above (a ∷ xs) (greatestOf a xs)
 unfolding greatestOf greater
@@ -132,15 +113,15 @@ greatest-met a (x ∷ xs) = go (below a x) refl (greatest-met x xs) (greatest-me
     go false e m n = met-old AtLeast Above downward a x (greatestOf a xs) xs (not-below a x e) n
 
 -- no element before the one that was met is equal to it in value
-pub least-first : (l : List ℕ) (v i : ℕ) (m : Met AtMost Below l v) → i < m .place → sameValue v (getD l i 0) ≡ false
+pub least-first : (l : List ℕ) (v i : ℕ) (m : Met AtMost Under l v) → i < m .place → sameValue v (getD l i 0) ≡ false
 least-first l v i m h = below-not-same v (getD l i 0) (m .first i h)
 
 pub greatest-first : (l : List ℕ) (v i : ℕ) (m : Met AtLeast Above l v) → i < m .place → sameValue (getD l i 0) v ≡ false
 greatest-first l v i m h = below-not-same (getD l i 0) v (m .first i h)
 
 -- the rule fixes it: two that are met so are one
-pub least-unique : (l : List ℕ) (v w : ℕ) → Met AtMost Below l v → Met AtMost Below l w → v ≡ w
-least-unique l v w m n = met-unique AtMost Below upward below-not-itself l v w m n
+pub least-unique : (l : List ℕ) (v w : ℕ) → Met AtMost Under l v → Met AtMost Under l w → v ≡ w
+least-unique l v w m n = met-unique AtMost Under upward below-not-itself l v w m n
 
 pub greatest-unique : (l : List ℕ) (v w : ℕ) → Met AtLeast Above l v → Met AtLeast Above l w → v ≡ w
 greatest-unique l v w m n = met-unique AtLeast Above downward below-not-itself l v w m n

@@ -10,7 +10,7 @@ use lib.Ieee.{binary64, ofFields, ofBits}
 use lib.Signed.{leZ}
 use Rattle.answer.proofs.Both.{both}
 use Rattle.extent.specs.Rank.{signed, rank, finite, atMost}
-use Rattle.extent.specs.Boxes.{Bounds, FiniteBox, bitsOf, patterns, inOrder, goodForm}
+use Rattle.extent.specs.Boxes.{Bounds, FiniteBox, patternOf, patterns, inOrder, goodForm}
 use Rattle.extent.specs.Forms.{floatsOf}
 use Rattle.extent.proofs.Patterns.{bits-back}
 use Rattle.extent.proofs.Finite.{four-finite}
@@ -64,19 +64,19 @@ module _ (b : ℕ) where
       digits x y e = omega arith
 
   -- the pattern of the float of a finite pattern
-  float-word : finite b ≡ true → bitsOf (ofBits binary64 b) ≡ word b
-  float-word f = ap bitsOf (sym word-float) ∙ bits-back (word b) word-less (word-finite ∙ f)
+  float-word : finite b ≡ true → patternOf (ofBits binary64 b) ≡ word b
+  float-word f = ap patternOf (sym word-float) ∙ bits-back (word b) word-less (word-finite ∙ f)
 
   -- is finite
-  pub float-finite : finite b ≡ true → finite (bitsOf (ofBits binary64 b)) ≡ true
+  pub float-finite : finite b ≡ true → finite (patternOf (ofBits binary64 b)) ≡ true
   float-finite f = ap finite (float-word f) ∙ word-finite ∙ f
 
   -- and has the same rank
-  pub float-rank : finite b ≡ true → rank (bitsOf (ofBits binary64 b)) ≡ rank b
+  pub float-rank : finite b ≡ true → rank (patternOf (ofBits binary64 b)) ≡ rank b
   float-rank f = ap rank (float-word f) ∙ word-rank
 
 -- so they compare as the patterns do
-pub float-at-most : (a b : ℕ) → finite a ≡ true → finite b ≡ true → atMost (bitsOf (ofBits binary64 a)) (bitsOf (ofBits binary64 b)) ≡ atMost a b
+pub float-at-most : (a b : ℕ) → finite a ≡ true → finite b ≡ true → atMost (patternOf (ofBits binary64 a)) (patternOf (ofBits binary64 b)) ≡ atMost a b
 unfolding atMost
 float-at-most a b f g = ap₂ leZ (float-rank a f) (float-rank b g)
 

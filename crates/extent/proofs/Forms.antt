@@ -1,15 +1,14 @@
 -- A box that came as four patterns: when it is good, and that its floats have these patterns. Assumes nothing.
 use mathlib.Core.Path.{_≡_, refl, sym, ap, _∙_}
 use mathlib.Core.Bool.{Bool, true, false, cond}
-use Prim.Native.Nat.{ℕ, _^_, _<_}
+use Prim.Native.Nat.{ℕ}
 use native.Mathlib.Omega.{arith}
-use lib.Dec.{T}
-use lib.Ieee.{binary64, fits}
+use lib.Ieee.{binary64}
 use lib.Ieee.Bits.{ofBits-toBits}
 use Rattle.answer.proofs.Both.{both, both-l, both-r}
 use Rattle.extent.specs.Rank.{finite}
-use Rattle.extent.specs.Boxes.{Bounds, FiniteBox, patterns, fourFinite, inOrder, goodForm, spotOf}
-use Rattle.extent.specs.Forms.{floatsOf, formOf}
+use Rattle.extent.specs.Boxes.{Bounds, Words, FiniteBox, patterns, fourFinite, inOrder, goodForm, spotOf}
+use Rattle.extent.specs.Forms.{floatsOf, FitsBox, formOf}
 use Rattle.extent.specs.declared.boxes.Box.{Box}
 use Rattle.extent.specs.declared.boxes.Form.the-variants.{Good, Bad}
 use Rattle.extent.proofs.Ranks.{at-most-refl}
@@ -70,20 +69,6 @@ unfolding formOf
 form-bad p = tested-bad (goodForm p) p
 
 -- ---- patterns and floats
-
--- four patterns of 64 bits
-pub record Words (p : Bounds) : Type 0 where
-  pub least-x : p .least-x < 2 ^ 64
-  pub least-y : p .least-y < 2 ^ 64
-  pub greatest-x : p .greatest-x < 2 ^ 64
-  pub greatest-y : p .greatest-y < 2 ^ 64
-
--- each of the four is a 64-bit float, as those of each box that a program holds are
-pub record FitsBox (b : Box) : Type 0 where
-  pub least-x : T (fits binary64 (b .«least_x»))
-  pub least-y : T (fits binary64 (b .«least_y»))
-  pub greatest-x : T (fits binary64 (b .«greatest_x»))
-  pub greatest-y : T (fits binary64 (b .«greatest_y»))
 
 -- the patterns of the floats of four finite patterns are those
 pub floats-patterns : (p : Bounds) → Words p → FiniteBox p → patterns (floatsOf p) ≡ p

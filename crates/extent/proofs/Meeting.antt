@@ -6,11 +6,11 @@ use Prim.Native.Nat.{ℕ, _+_, _^_, _≤_, _<_}
 use lib.ListN.{length, take, drop}
 use Rattle.answer.proofs.Both.{not-true, no-both, both-l, both-r}
 use Rattle.extent.specs.Rank.{finite, atMost, below}
-use Rattle.extent.specs.Boxes.{Bounds, inOrder, goodForm, meets, Holds, Shares, greater, boxOf}
+use Rattle.extent.specs.Boxes.{Bounds, inOrder, goodForm, meets, HoldsPoint, Shares, greater, boxOf, Words}
 use Rattle.extent.proofs.Tests.{same-test, T-true, true-T, all-four, four-all}
 use Rattle.extent.proofs.Ranks.{at-most-refl, at-most-trans, below-at-most, not-below}
 use Rattle.extent.proofs.Finite.{IsFinite, greater-has}
-use Rattle.extent.proofs.Forms.{Words, good-finite, good-order}
+use Rattle.extent.proofs.Forms.{good-finite, good-order}
 use Rattle.extent.proofs.Boxed.{Covers, covers-part}
 
 -- the four tests, one by one
@@ -77,7 +77,7 @@ corner-x p q = greater (p .least-x) (q .least-x)
 abbrev corner-y : Bounds → Bounds → ℕ
 corner-y p q = greater (p .least-y) (q .least-y)
 
-corner-in-first : (p q : Bounds) → goodForm p ≡ true → Meet p q → Holds p (corner-x p q) (corner-y p q)
+corner-in-first : (p q : Bounds) → goodForm p ≡ true → Meet p q → HoldsPoint p (corner-x p q) (corner-y p q)
 corner-in-first p q g m = record {
   from-x = greater-first (p .least-x) (q .least-x);
   to-x = under (p .least-x) (q .least-x) (p .greatest-x) (order-x p g) (m .x′);
@@ -85,7 +85,7 @@ corner-in-first p q g m = record {
   to-y = under (p .least-y) (q .least-y) (p .greatest-y) (order-y p g) (m .y′);
 }
 
-corner-in-second : (p q : Bounds) → goodForm q ≡ true → Meet p q → Holds q (corner-x p q) (corner-y p q)
+corner-in-second : (p q : Bounds) → goodForm q ≡ true → Meet p q → HoldsPoint q (corner-x p q) (corner-y p q)
 corner-in-second p q h m = record {
   from-x = greater-second (p .least-x) (q .least-x);
   to-x = under (p .least-x) (q .least-x) (q .greatest-x) (m .x) (order-x q h);
@@ -99,8 +99,8 @@ corner-finite p q g h =
     let k = good-finite q h in
     (greater-has IsFinite (p .least-x) (q .least-x) (f .least-x) (k .least-x), greater-has IsFinite (p .least-y) (q .least-y) (f .least-y) (k .least-y))
 
-abbrev corner : (p q : Bounds) → (finite (corner-x p q) ≡ true) × (finite (corner-y p q) ≡ true) → Holds p (corner-x p q) (corner-y p q)
-    → Holds q (corner-x p q) (corner-y p q) → Shares p q
+abbrev corner : (p q : Bounds) → (finite (corner-x p q) ≡ true) × (finite (corner-y p q) ≡ true) → HoldsPoint p (corner-x p q) (corner-y p q)
+    → HoldsPoint q (corner-x p q) (corner-y p q) → Shares p q
 corner p q f a b = record { x = corner-x p q; y = corner-y p q; finite-x = f .0; finite-y = f .1; first = a; second = b }
 
 pub meets-shares : (p q : Bounds) → goodForm p ≡ true → goodForm q ≡ true → meets p q ≡ true → Shares p q

@@ -1,5 +1,5 @@
 -- A box is four floats: least x, least y, greatest x, greatest y. Here it is taken by their bit patterns. Assumes nothing.
-use Prim.Native.Nat.{ℕ, _+_}
+use Prim.Native.Nat.{ℕ, _+_, _^_, _<_}
 use mathlib.Core.Path.{_≡_}
 use mathlib.Core.Bool.{Bool, true, _&&_, cond}
 use mathlib.Core.List.{List, [], _∷_}
@@ -15,17 +15,24 @@ pub record Bounds : Type 0 where
   pub greatest-x : ℕ
   pub greatest-y : ℕ
 
+-- four patterns of 64 bits
+pub record Words (p : Bounds) : Type 0 where
+  pub least-x : p .least-x < 2 ^ 64
+  pub least-y : p .least-y < 2 ^ 64
+  pub greatest-x : p .greatest-x < 2 ^ 64
+  pub greatest-y : p .greatest-y < 2 ^ 64
+
 -- the pattern of a float
-abbrev pub bitsOf : Float → ℕ
-bitsOf x = toBits binary64 x
+abbrev pub patternOf : Float → ℕ
+patternOf x = toBits binary64 x
 
 -- the patterns of a box
 abbrev pub patterns : Box → Bounds
 patterns b = record {
-  least-x = bitsOf (b .«least_x»);
-  least-y = bitsOf (b .«least_y»);
-  greatest-x = bitsOf (b .«greatest_x»);
-  greatest-y = bitsOf (b .«greatest_y»);
+  least-x = patternOf (b .«least_x»);
+  least-y = patternOf (b .«least_y»);
+  greatest-x = patternOf (b .«greatest_x»);
+  greatest-y = patternOf (b .«greatest_y»);
 }
 
 -- four patterns as they stand in bytes, from place at on
@@ -37,10 +44,11 @@ boundsAt s at = record {
   greatest-y = numberAt 8 s (at + 24);
 }
 
--- all four are finite: as a test, and one by one
+-- all four are finite, as a test
 unfoldable pub fourFinite : Bounds → Bool
 fourFinite p = finite (p .least-x) && finite (p .least-y) && finite (p .greatest-x) && finite (p .greatest-y)
 
+-- all four are finite, one by one
 pub record FiniteBox (p : Bounds) : Type 0 where
   pub least-x : finite (p .least-x) ≡ true
   pub least-y : finite (p .least-y) ≡ true
@@ -70,7 +78,7 @@ meets p q =
     && atMost (p .least-y) (q .greatest-y) && atMost (q .least-y) (p .greatest-y)
 
 -- the point x, y lies in the box, edges included
-pub record Holds (p : Bounds) (x y : ℕ) : Type 0 where
+pub record HoldsPoint (p : Bounds) (x y : ℕ) : Type 0 where
   pub from-x : atMost (p .least-x) x ≡ true
   pub to-x : atMost x (p .greatest-x) ≡ true
   pub from-y : atMost (p .least-y) y ≡ true
@@ -82,23 +90,25 @@ pub record Shares (p q : Bounds) : Type 0 where
   pub y : ℕ
   pub finite-x : finite x ≡ true
   pub finite-y : finite y ≡ true
-  pub first : Holds p x y
-  pub second : Holds q x y
+  pub first : HoldsPoint p x y
+  pub second : HoldsPoint q x y
 
 -- ---- the box of vertices
 
--- the lesser and the greater of two in value: a, the first met, where they are equal
+-- the lesser of two in value: a, the first met, where they are equal
 unfoldable pub lesser : ℕ → ℕ → ℕ
 lesser a x = cond (below x a) x a
 
+-- the greater of two in value, likewise
 unfoldable pub greater : ℕ → ℕ → ℕ
 greater a x = cond (below a x) x a
 
--- the least and the greatest of a and those after it, the first met among equals
+-- the least of a and those after it, the first met among equals
 unfoldable pub leastOf : ℕ → List ℕ → ℕ
 leastOf a [] = a
 leastOf a (x ∷ xs) = leastOf (lesser a x) xs
 
+-- the greatest of them, likewise
 unfoldable pub greatestOf : ℕ → List ℕ → ℕ
 greatestOf a [] = a
 greatestOf a (x ∷ xs) = greatestOf (greater a x) xs
@@ -107,7 +117,7 @@ greatestOf a (x ∷ xs) = greatestOf (greater a x) xs
 abbrev pub spotOf : ℕ → ℕ → Bounds
 spotOf x y = record { least-x = x; least-y = y; greatest-x = x; greatest-y = y }
 
--- a box with one vertex more
+-- a box with one vertex more, for the inner walk that makes a box; no service speaks of it
 abbrev pub withVertex : Bounds → ℕ → ℕ → Bounds
 withVertex p x y = record {
   least-x = lesser (p .least-x) x;

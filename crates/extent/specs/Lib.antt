@@ -1,3 +1,4 @@
 pub mod Rank
 pub mod Boxes
 pub mod Forms
+pub mod FirstMet

@@ -1,11 +1,12 @@
 -- Order of finite values: a pattern with sign bit 0 has as its rank its low 63 bits, with sign bit 1 minus those; values compare as ranks.
 -- So both zeros are equal. A pattern is a number below 2 ^ 64. Assumes nothing.
 use Prim.Native.Nat.{ℕ, _/_, _%_, _^_}
-use mathlib.Core.Bool.{Bool, true, false, _&&_}
-use mathlib.Core.List.{List, [], _∷_}
+use mathlib.Core.Bool.{Bool, true, false}
+use mathlib.Core.List.{List}
 use lib.Dec.{leb, ltb, eqb}
 use lib.IntN.{ℤ, pos, negsuc, negℤ}
 use lib.Signed.{leZ, ltZ}
+use Rattle.answer.specs.Every.{allOf}
 
 -- n, or with sign bit 1 minus n
 abbrev pub signed : Bool → ℕ → ℤ
@@ -21,9 +22,8 @@ unfoldable pub finite : ℕ → Bool
 finite b = ltb (b / 2 ^ 52 % 2048) 2047
 
 -- all patterns of a list are finite
-unfoldable pub allFinite : List ℕ → Bool
-allFinite [] = true
-allFinite (b ∷ bs) = finite b && allFinite bs
+abbrev pub allFinite : List ℕ → Bool
+allFinite = allOf finite
 
 -- two whole numbers are equal
 abbrev pub eqZ : ℤ → ℤ → Bool
@@ -32,12 +32,14 @@ eqZ (pos a) (negsuc b) = false
 eqZ (negsuc a) (pos b) = false
 eqZ (negsuc a) (negsuc b) = eqb a b
 
--- the value of a is at most, below, the same as that of b
+-- the value of a is at most that of b
 unfoldable pub atMost : ℕ → ℕ → Bool
 atMost a b = leZ (rank a) (rank b)
 
+-- it is below that of b
 unfoldable pub below : ℕ → ℕ → Bool
 below a b = ltZ (rank a) (rank b)
 
+-- it is that of b
 unfoldable pub sameValue : ℕ → ℕ → Bool
 sameValue a b = eqZ (rank a) (rank b)

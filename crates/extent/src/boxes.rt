@@ -4,7 +4,7 @@ ghost use mathlib.Core.Bool.{true};
 ghost use Prim.Native.Nat.{_<_};
 ghost use lib.ListN.{length};
 ghost use Rattle.extent.specs.Rank.{finite, allFinite};
-ghost use Rattle.extent.specs.Boxes.{bitsOf, patterns, FiniteBox, fourFinite, inOrder, goodForm, sameBox, meets, lesser, greater, spotOf, withVertex, boxOf};
+ghost use Rattle.extent.specs.Boxes.{patternOf, patterns, FiniteBox, fourFinite, inOrder, goodForm, sameBox, meets, lesser, greater, spotOf, withVertex, boxOf};
 ghost use Rattle.extent.specs.Forms.{formOf};
 use crate::rank::finite;
 use crate::rank::finite_float;
@@ -50,8 +50,8 @@ pub fn same_value(a: Box, b: Box) -> bool
 
 // The lesser of two floats, the first where they are equal.
 fn lesser_of(a: f64, x: f64) -> f64
-    requires { ⌜ (finite (bitsOf a) ≡ true) × (finite (bitsOf x) ≡ true) ⌝ }
-    ensures { λ r. ⌜ bitsOf r ≡ lesser (bitsOf a) (bitsOf x) ⌝ }
+    requires { ⌜ (finite (patternOf a) ≡ true) × (finite (patternOf x) ≡ true) ⌝ }
+    ensures { λ r. ⌜ patternOf r ≡ lesser (patternOf a) (patternOf x) ⌝ }
 {
     if x < a {
         return x;
@@ -61,8 +61,8 @@ fn lesser_of(a: f64, x: f64) -> f64
 
 // The greater of two floats, the first where they are equal.
 fn greater_of(a: f64, x: f64) -> f64
-    requires { ⌜ (finite (bitsOf a) ≡ true) × (finite (bitsOf x) ≡ true) ⌝ }
-    ensures { λ r. ⌜ bitsOf r ≡ greater (bitsOf a) (bitsOf x) ⌝ }
+    requires { ⌜ (finite (patternOf a) ≡ true) × (finite (patternOf x) ≡ true) ⌝ }
+    ensures { λ r. ⌜ patternOf r ≡ greater (patternOf a) (patternOf x) ⌝ }
 {
     if a < x {
         return x;

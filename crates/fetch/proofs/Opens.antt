@@ -16,7 +16,7 @@ use Rattle.le.proofs.Runs.{length-numbers}
 use Rattle.types.specs.Parts.{total, partsHold}
 use Rattle.types.proofs.Agreeing.{agree-even}
 use Rattle.types.proofs.Passed.{hold-agree, hold-total, agree-counts, parts-at-most}
-use Rattle.shape.specs.Outline.{Shape, outlinesOf, shapesOf}
+use Rattle.shape.specs.Outline.{Shape, outlinesOf, registered}
 use Rattle.frame.specs.declared.head.Head.{Head}
 use Rattle.page.specs.Contents.{registersOf, typesOf, countsOf, lensOf, contentsOf}
 use Rattle.page.specs.Loaded.{Loaded}
@@ -66,7 +66,7 @@ module _ (t : Seat) where
 
 -- the shape at i
 pub listed-shape : (h : Head) (b xs ys : List ℕ) (i : ℕ) → partsHold (typesOf h b) (countsOf h b) (lensOf h b) (h .v) ≡ true → i < h .g
-    → shapeAt i (shapesOf (registersOf h b) (outlinesOf (typesOf h b) (countsOf h b) (lensOf h b) xs ys))
+    → shapeAt i (registered (registersOf h b) (outlinesOf (typesOf h b) (countsOf h b) (lensOf h b) xs ys))
     ≡ ok (shapeFrom (rowOf h b i) (spanOf (countsOf h b) (lensOf h b) i) (lensOf h b) xs ys)
 unfolding rowOf registersOf
 listed-shape h b xs ys i q l =
@@ -100,7 +100,7 @@ module _ (h : Head) (b counts lens xs ys : List ℕ) (y : Loaded h b counts lens
       → on (shapeOf (record { page = k; index = i; held = record { head = h; body = b } })) (inRooms rooms) ≡ inRooms rooms (shapeFrom r p lens xs ys)
   loaded-shape k i r p rooms l er ep =
       let t : Seat = record { page = k; index = i; held = record { head = h; body = b } } in
-      let ss = shapesOf (registersOf h b) (outlinesOf (typesOf h b) counts lens xs ys) in
+      let ss = registered (registersOf h b) (outlinesOf (typesOf h b) counts lens xs ys) in
       let e : shapeAt i ss ≡ ok (shapeFrom r p lens xs ys) = rw (er, ep, y .counts-are, y .lens-are) (listed-shape h b xs ys i held l) in
       on-value (shapeOf t) (inRooms rooms) (shapeFrom r p lens xs ys) (seat-contents t ss (y .shapes) ∙ e)
 

@@ -16,8 +16,8 @@ use Rattle.answer.specs.Outcome.{Out, refused, ok, on, Fills}
 use Rattle.answer.proofs.Outcomes.{never, ok-inj, met, unmet, on-ok, fills-refused, fills-ok}
 use Rattle.answer.proofs.Both.{both-l, both-r}
 use Rattle.le.proofs.Copying.{copy-more}
-use Rattle.types.specs.Every.{allOf}
-use Rattle.types.proofs.Alls.{all-none, all-cons}
+use Rattle.answer.specs.Every.{allOf}
+use Rattle.answer.proofs.Alls.{all-none, all-cons}
 use Rattle.frame.specs.declared.cursor.Cursor.{Cursor}
 use Rattle.frame.specs.Step.{part}
 use Rattle.frame.specs.declared.walk.Totals.{Totals}

@@ -8,7 +8,7 @@ use lib.Seq.{drop-cons, take-suc, take-add}
 use Rattle.answer.specs.Outcome.{ok}
 use Rattle.types.specs.Parts.{total}
 use Rattle.types.proofs.Sums.{total-none, total-cons, total-append, total-take-le}
-use Rattle.shape.specs.Outline.{Outline, Shape, outlineWith, outlinesOf, shapesOf}
+use Rattle.shape.specs.Outline.{Outline, Shape, outlineWith, outlinesOf, registered}
 use Rattle.shape.proofs.Outlines.{outlines-drop, shapes-drop}
 use Rattle.fetch.specs.declared.row.Row.{Row}
 use Rattle.fetch.specs.declared.span.Span.{Span}
@@ -67,24 +67,24 @@ module _ (rs types counts lens xs ys : List ℕ) (i : ℕ) (hr : i < length rs) 
   sum : total (take (k + c) lens) ≡ total (take k lens) + total (take c (drop k lens))
   sum = ap total (take-add k c lens) ∙ total-append (take k lens) (take c (drop k lens))
 
-  stands : (l : List Shape) × (drop i (shapesOf rs os) ≡ mine ∷ l)
-  unfolding outlinesOf shapesOf shapeFrom spanOf
+  stands : (l : List Shape) × (drop i (registered rs os) ≡ mine ∷ l)
+  unfolding outlinesOf registered shapeFrom spanOf
   stands =
       let n = total (take c (drop k lens)) in
       let en : n ≡ total (take (k + c) lens) - total (take k lens) = omega (arith, sum) in
       let ec : c ≡ k + c - k = omega arith in (
-        shapesOf (drop (suc i) rs)
+        registered (drop (suc i) rs)
             (outlinesOf (drop (suc i) types) (drop (suc i) counts) (drop c (drop k lens)) (drop n (drop (total (take k lens)) xs)) (drop n (drop (total (take k lens)) ys))),
         shapes-drop i rs os
-            ∙ (λ j. shapesOf (drop-cons rs i 0 hr j) (outlines-drop i types counts lens xs ys j))
-            ∙ (λ j. shapesOf (getD rs i 0 ∷ drop (suc i) rs) (outlinesOf (drop-cons types i 0 ht j) (drop-cons counts i 0 hc j) (drop k lens) (drop (total (take k lens)) xs) (drop (total (take k lens)) ys)))
+            ∙ (λ j. registered (drop-cons rs i 0 hr j) (outlines-drop i types counts lens xs ys j))
+            ∙ (λ j. registered (getD rs i 0 ∷ drop (suc i) rs) (outlinesOf (drop-cons types i 0 ht j) (drop-cons counts i 0 hc j) (drop k lens) (drop (total (take k lens)) xs) (drop (total (take k lens)) ys)))
             ∙ (λ j. record {
               register = getD rs i 0;
               outline = outlineWith (getD types i 0) (take (ec j) (drop k lens)) (take (en j) (drop (total (take k lens)) xs)) (take (en j) (drop (total (take k lens)) ys));
-            } ∷ shapesOf (drop (suc i) rs)
+            } ∷ registered (drop (suc i) rs)
             (outlinesOf (drop (suc i) types) (drop (suc i) counts) (drop c (drop k lens)) (drop n (drop (total (take k lens)) xs)) (drop n (drop (total (take k lens)) ys)))),
       )
 
   -- it is the shape at i
-  pub span-shape : shapeAt i (shapesOf rs (outlinesOf types counts lens xs ys)) ≡ ok (shapeFrom (record { register = getD rs i 0; kind = getD types i 0 }) (spanOf counts lens i) lens xs ys)
-  span-shape = nth-drop i (shapesOf rs os) (stands .0) mine (stands .1)
+  pub span-shape : shapeAt i (registered rs (outlinesOf types counts lens xs ys)) ≡ ok (shapeFrom (record { register = getD rs i 0; kind = getD types i 0 }) (spanOf counts lens i) lens xs ys)
+  span-shape = nth-drop i (registered rs os) (stands .0) mine (stands .1)

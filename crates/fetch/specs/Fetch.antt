@@ -37,6 +37,7 @@ pub record Rooms : Type 0 where
   pub xs : ℕ
   pub ys : ℕ
 
+-- the rooms that three lists are
 abbrev pub roomsOf : List ℕ → List ℕ → List ℕ → Rooms
 roomsOf lens xs ys = record { lens = length lens; xs = length xs; ys = length ys }
 

@@ -38,9 +38,10 @@ rowsOf s places registers types =
     on (rowsIn s places) (λ rs.
     need (leb (length places) registers && leb (length places) types) (because table.room) (ok rs))
 
--- their registers, and their types
+-- their registers
 unfoldable pub registersFrom : Out (List Row) → Out (List ℕ)
 registersFrom o = on o (λ rs. ok (map (λ (r : Row). r .register) rs))
 
+-- and their types
 unfoldable pub typesFrom : Out (List Row) → Out (List ℕ)
 typesFrom o = on o (λ rs. ok (map (λ (r : Row). r .kind) rs))

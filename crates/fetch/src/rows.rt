@@ -5,7 +5,7 @@ ghost use Prim.Native.Nat.{ℕ, _≤_};
 ghost use lib.Dec.{ltb};
 ghost use lib.ListN.{length};
 ghost use Rattle.answer.specs.Outcome.{ok, Fills};
-ghost use Rattle.types.specs.Every.{allOf};
+ghost use Rattle.answer.specs.Every.{allOf};
 ghost use Rattle.fetch.specs.declared.row.Row.{Row};
 ghost use Rattle.fetch.specs.Onward.{Onward};
 ghost use Rattle.fetch.specs.Rows.{rowsIn, rowsOf, registersFrom, typesFrom};

@@ -10,12 +10,12 @@ use Rattle.answer.specs.Table.{cut, counts, boxForm}
 use Rattle.answer.specs.Refusal.{because}
 use Rattle.answer.specs.Outcome.{refused, ok}
 use Rattle.answer.proofs.Outcomes.{ok-inj, met, unmet, need-ok}
-use Rattle.le.specs.Number.{numberAt}
-use Rattle.le.proofs.Numbers.{Bytes, number-at-lt}
-use Rattle.extent.specs.Boxes.{boundsAt, FiniteBox, patterns, goodForm}
+use Rattle.le.specs.Number.{numberAt, Bytes}
+use Rattle.le.proofs.Numbers.{number-at-lt}
+use Rattle.extent.specs.Boxes.{boundsAt, FiniteBox, patterns, goodForm, Words}
 use Rattle.extent.specs.Forms.{floatsOf}
 use Rattle.extent.specs.declared.boxes.Box.{Box}
-use Rattle.extent.proofs.Forms.{Words, floats-patterns}
+use Rattle.extent.proofs.Forms.{floats-patterns}
 use Rattle.frame.specs.declared.layout.Layout.{Layout}
 use Rattle.frame.specs.declared.head.Head.{Head}
 use Rattle.frame.specs.Layout.{layoutOf}

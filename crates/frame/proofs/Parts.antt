@@ -7,9 +7,9 @@ use native.Mathlib.Nat.{mod-eq-of-lt}
 use native.Mathlib.Omega.{arith}
 use lib.ListN.{length, take, drop, length-append, length-drop, take-append-drop}
 use lib.Seq.{length-take-le, take-at, drop-drop, drop-append-add}
-use Rattle.le.specs.Number.{number, numberAt, bytesOf}
-use Rattle.le.specs.Block.{headOf}
-use Rattle.le.proofs.Numbers.{Bytes, bytes-part}
+use Rattle.le.specs.Number.{number, numberAt, bytesOf, Bytes}
+use Rattle.le.specs.Block.{blockHead}
+use Rattle.le.proofs.Numbers.{bytes-part}
 use Rattle.le.proofs.Bytes.{bytes-number, number-at-append}
 use Rattle.le.proofs.Blocks.{length-head, head-len, head-kind}
 use Rattle.frame.specs.Step.{part}
@@ -37,17 +37,17 @@ cut-at k s at = sym (ap (λ (l : List ℕ). part s at k ++ l) (sym (drop-drop k 
 module _ (kind : ℕ) (body : List ℕ) where
   pub length-block : length (blockOf kind body) ≡ 6 + length body
   unfolding blockOf
-  length-block = length-append (headOf (length body) kind) body ∙ ap (λ (n : ℕ). n + length body) (length-head (length body) kind)
+  length-block = length-append (blockHead (length body) kind) body ∙ ap (λ (n : ℕ). n + length body) (length-head (length body) kind)
 
   module _ (s pre rest : List ℕ) (at : ℕ) (e : s ≡ pre ++ (blockOf kind body ++ rest)) (l : length pre ≡ at) where
     -- behind its head come its body and the rest
-    whole : s ≡ pre ++ (headOf (length body) kind ++ (body ++ rest))
+    whole : s ≡ pre ++ (blockHead (length body) kind ++ (body ++ rest))
     unfolding blockOf
-    whole = e ∙ ap (λ (x : List ℕ). pre ++ x) (append-assoc (headOf (length body) kind) body rest)
+    whole = e ∙ ap (λ (x : List ℕ). pre ++ x) (append-assoc (blockHead (length body) kind) body rest)
 
     behind-head : drop (at + 6) s ≡ body ++ rest
     behind-head =
-        let h = headOf (length body) kind in
+        let h = blockHead (length body) kind in
         let six : at + 6 ≡ length pre + (length h + 0) = omega (arith, l, length-head (length body) kind) in
         ap₂ (λ (n : ℕ) (x : List ℕ). drop n x) six whole
         ∙ drop-append-add pre (h ++ (body ++ rest)) (length h + 0)
@@ -66,7 +66,7 @@ module _ (kind : ℕ) (body : List ℕ) where
 
     pub put-stands : kind < 2 ^ 16 → length body < 2 ^ 32 → Stands s at kind (at + 6) (length body)
     put-stands a b =
-        let h = headOf (length body) kind in
+        let h = blockHead (length body) kind in
         let m : at ≡ length pre + 0 = omega (arith, l) in
         let n : at + 4 ≡ length pre + 4 = omega (arith, l) in
         record {
@@ -83,7 +83,7 @@ module _ (kind : ℕ) (body : List ℕ) where
 
 pub stands-block : (s : List ℕ) (at kind body len : ℕ) → Bytes s → Stands s at kind body len
     → drop at s ≡ blockOf kind (part s body len) ++ drop (body + len) s
-unfolding blockOf headOf
+unfolding blockOf blockHead
 stands-block s at kind body len y k =
     let f = k .fits in
     let g = k .body-at in
@@ -96,5 +96,5 @@ stands-block s at kind body len y k =
     ∙ ap₂ (λ (x z : List ℕ). x ++ z) b4
     (cut-at 2 s (at + 4) ∙ ap₂ (λ (x z : List ℕ). x ++ z) b2 (ap (λ (i : ℕ). drop i s) six ∙ cut-at len s body))
     ∙ sym (append-assoc (bytesOf 4 len) (bytesOf 2 kind) rest)
-    ∙ ap (λ (i : ℕ). headOf i kind ++ rest) n
-    ∙ sym (append-assoc (headOf (length (part s body len)) kind) (part s body len) (drop (body + len) s))
+    ∙ ap (λ (i : ℕ). blockHead i kind ++ rest) n
+    ∙ sym (append-assoc (blockHead (length (part s body len)) kind) (part s body len) (drop (body + len) s))

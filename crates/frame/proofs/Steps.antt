@@ -18,7 +18,7 @@ use Rattle.le.specs.declared.block.Block.{Block}
 use Rattle.le.specs.Number.{numberAt}
 use Rattle.le.specs.declared.block.BlockRead.{BlockRead}
 use Rattle.le.specs.declared.block.BlockRead.the-variants as read
-use Rattle.le.specs.Block.{presentAt, blockAt, said}
+use Rattle.le.specs.Block.{presentAt, blockAt, saidBlock}
 use Rattle.le.proofs.Blocks.{block-absent}
 use Rattle.frame.specs.declared.head.Head.{Head}
 use Rattle.frame.specs.declared.cursor.Cursor.{Cursor}
@@ -108,12 +108,12 @@ module _ (s : List ℕ) (c : Cursor) (b : Block) where
 -- ---- the block that the code was given
 
 module _ (s : List ℕ) (at : ℕ) (r : BlockRead) where
-  pub block-said : (b : Block) → said r ≡ blockAt s at → r ≡ read.Found b → blockAt s at ≡ ok b
-  unfolding said
+  pub block-said : (b : Block) → saidBlock r ≡ blockAt s at → r ≡ read.Found b → blockAt s at ≡ ok b
+  unfolding saidBlock
   block-said b f e = sym f ∙ rw e
 
-  pub block-refused : (w : Refusal) → said r ≡ blockAt s at → r ≡ read.Refused w → blockAt s at ≡ refused w
-  unfolding said
+  pub block-refused : (w : Refusal) → saidBlock r ≡ blockAt s at → r ≡ read.Refused w → blockAt s at ≡ refused w
+  unfolding saidBlock
   block-refused w f e = sym f ∙ rw e
 
 -- ---- a step

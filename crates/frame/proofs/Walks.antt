@@ -15,7 +15,7 @@ use Rattle.frame.specs.declared.walk.Framed.{Framed}
 use Rattle.frame.specs.declared.walk.Framed.the-variants as framed
 use Rattle.frame.specs.declared.walk.Totals.{Totals}
 use Rattle.frame.specs.Step.{part, Turn, page, end, firstOf, stepOf}
-use Rattle.frame.specs.Frame.{Page, Frame, pageOf, walk, frameOf, shapesOf, countOf, totalsOf}
+use Rattle.frame.specs.Frame.{Page, Frame, pageOf, walk, frameOf, shapesOf, pageTotals, totalsOf}
 use Rattle.frame.specs.Ahead.{Within}
 use Rattle.frame.specs.Said.{saidFirst, saidFrame}
 use Rattle.frame.proofs.Heads.{head-is, head-limits}
@@ -90,10 +90,10 @@ countFrom c ps = record { pages = c .pages + length ps; shapes = c .shapes + sha
 
 pub record Walking (s : List ℕ) (from c : Cursor) : Type 0 where
   pub within : Within c
-  pub same : on (walk 1025 s from) (λ ps. ok (countOf ps)) ≡ on (walk (1025 - c .pages) s c) (λ ps. ok (countFrom c ps))
+  pub same : on (walk 1025 s from) (λ ps. ok (pageTotals ps)) ≡ on (walk (1025 - c .pages) s c) (λ ps. ok (countFrom c ps))
 
 -- nothing yet
-count-none : (c : Cursor) (x : Out (List Page)) → c .pages ≡ 0 → c .shapes ≡ 0 → on x (λ ps. ok (countOf ps)) ≡ on x (λ ps. ok (countFrom c ps))
+count-none : (c : Cursor) (x : Out (List Page)) → c .pages ≡ 0 → c .shapes ≡ 0 → on x (λ ps. ok (pageTotals ps)) ≡ on x (λ ps. ok (countFrom c ps))
 unfolding on
 count-none c (refused w) a b = refl
 count-none c (ok ps) a b =
@@ -120,12 +120,12 @@ count-more s c p (ok ps) a b =
     λ i. ok (record { pages = m i; shapes = n i })
 
 module _ (s : List ℕ) (from c : Cursor) (w : Walking s from c) where
-  pub walking-refused : (x : Refusal) → stepOf s c ≡ refused x → saidFrame (framed.Refused x) ≡ on (walk 1025 s from) (λ ps. ok (countOf ps))
+  pub walking-refused : (x : Refusal) → stepOf s c ≡ refused x → saidFrame (framed.Refused x) ≡ on (walk 1025 s from) (λ ps. ok (pageTotals ps))
   unfolding saidFrame on
   walking-refused x e = sym (w .same ∙ rw (fuel c (w .within), walk-refused s c (1024 - c .pages) x e))
 
   pub walking-end : stepOf s c ≡ ok end
-      → saidFrame (framed.Sound (record { pages = c .pages; shapes = c .shapes })) ≡ on (walk 1025 s from) (λ ps. ok (countOf ps))
+      → saidFrame (framed.Sound (record { pages = c .pages; shapes = c .shapes })) ≡ on (walk 1025 s from) (λ ps. ok (pageTotals ps))
   unfolding saidFrame on shapesOf
   walking-end e =
       let m : c .pages + 0 ≡ c .pages = omega arith in
@@ -159,12 +159,12 @@ module _ (s : List ℕ) (r : FirstRead) (f : saidFirst r ≡ firstOf s) where
       let k = first-is s c (first-said s r f c e) in
       (ap (λ (x : Cursor). x .pages) (k .after), ap (λ (x : Cursor). x .shapes) (k .after))
 
-  pub frame-walk : (c : Cursor) → r ≡ first.After c → (x : Out Totals) → x ≡ on (walk 1025 s c) (λ ps. ok (countOf ps))
+  pub frame-walk : (c : Cursor) → r ≡ first.After c → (x : Out Totals) → x ≡ on (walk 1025 s c) (λ ps. ok (pageTotals ps))
       → x ≡ on (frameOf s) (λ f. ok (totalsOf f))
   unfolding frameOf on
   frame-walk c e x q = q ∙ rw (first-said s r f c e) (joined (walk 1025 s c))
     where
-      joined : (y : Out (List Page)) → on y (λ ps. ok (countOf ps)) ≡ on (on y (λ ps. ok (record { edition = c .edition; pages = ps }))) (λ f. ok (totalsOf f))
+      joined : (y : Out (List Page)) → on y (λ ps. ok (pageTotals ps)) ≡ on (on y (λ ps. ok (record { edition = c .edition; pages = ps }))) (λ f. ok (totalsOf f))
       joined (refused w) = refl
       joined (ok ps) = refl
 

@@ -8,8 +8,8 @@ use native.Mathlib.Omega.{arith}
 use lib.ListN.{length, take, drop, length-append, drop-of-length-le}
 use lib.Seq.{take-add, drop-drop}
 use Rattle.answer.specs.Outcome.{Out, ok, on}
-use Rattle.le.specs.Number.{numberAt, bytesOf}
-use Rattle.le.proofs.Numbers.{Bytes, number-at-lt}
+use Rattle.le.specs.Number.{numberAt, bytesOf, Bytes}
+use Rattle.le.proofs.Numbers.{number-at-lt}
 use Rattle.le.proofs.Bytes.{length-bytesOf, number-at-append, number-at-bytesOf, number-at-part}
 use Rattle.frame.specs.declared.cursor.Cursor.{Cursor}
 use Rattle.frame.specs.declared.cursor.PageAt.{PageAt}

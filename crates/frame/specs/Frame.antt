@@ -49,8 +49,9 @@ shapesOf [] = 0
 shapesOf (p ∷ ps) = p .head .g + shapesOf ps
 
 -- how many pages, and how many shapes
-abbrev pub countOf : List Page → Totals
-countOf ps = record { pages = length ps; shapes = shapesOf ps }
+abbrev pub pageTotals : List Page → Totals
+pageTotals ps = record { pages = length ps; shapes = shapesOf ps }
 
+-- those of a frame
 abbrev pub totalsOf : Frame → Totals
-totalsOf f = countOf (f .pages)
+totalsOf f = pageTotals (f .pages)

@@ -11,7 +11,7 @@ use Rattle.frame.specs.Frame.{Page, Frame, shapesOf}
 
 -- a block: length of the body, kind, body
 unfoldable pub blockOf : ℕ → List ℕ → List ℕ
-blockOf kind body = block.headOf (length body) kind ++ body
+blockOf kind body = block.blockHead (length body) kind ++ body
 
 -- kind 2, a page's body each
 unfoldable pub pageBlocks : List Page → List ℕ

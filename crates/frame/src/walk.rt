@@ -5,7 +5,7 @@ ghost use lib.ListN.{length};
 ghost use Rattle.answer.specs.Outcome.{on, ok, refused};
 ghost use Rattle.answer.specs.Refusal.{because};
 ghost use Rattle.frame.specs.Step.{firstStep, firstOf};
-ghost use Rattle.frame.specs.Frame.{walk, countOf, frameOf, totalsOf};
+ghost use Rattle.frame.specs.Frame.{walk, pageTotals, frameOf, totalsOf};
 ghost use Rattle.frame.specs.Said.{saidFirst, saidFrame};
 use crate::cursor::Cursor;
 use crate::read::at_end;
@@ -82,7 +82,7 @@ pub fn first(s: &[u8]) -> FirstRead
 // The walk from a cursor to the end.
 fn walk_from(s: &[u8], from: Cursor) -> Framed
     requires { ⌜ (from .pages ≡ 0) × (from .shapes ≡ 0) ⌝ }
-    ensures { λ r. ⌜ saidFrame r ≡ on (walk 1025 (now (s .entry)) from) (λ ps. ok (countOf ps)) ⌝ }
+    ensures { λ r. ⌜ saidFrame r ≡ on (walk 1025 (now (s .entry)) from) (λ ps. ok (pageTotals ps)) ⌝ }
 {
     let mut c = from;
     loop {

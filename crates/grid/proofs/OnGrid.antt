@@ -1,19 +1,18 @@
--- Patterns on grid: they are finite, their whole number is within 2 ^ 24; lists of them, and parts of those. Assumes nothing.
+-- Patterns on grid: they are finite, their whole number is within 2 ^ 24; a walk over a list of them. Assumes nothing.
 use mathlib.Core.Path.{_≡_, refl, sym, ap, _∙_}
 use mathlib.Core.Bool.{Bool, true, false, _&&_, and-true, and-assoc}
-use mathlib.Core.List.{List, [], _∷_}
-use Prim.Native.Nat.{ℕ, zero, suc, _+_, _^_, _≤_, _<_}
-use native.Mathlib.Nat.{le-of-suc-le-suc, add-comm}
-use native.Mathlib.Numerals.{add-one}
+use mathlib.Core.List.{List}
+use Prim.Native.Nat.{ℕ, _+_, _^_, _≤_, _<_}
+use native.Mathlib.Nat.{add-comm}
 use native.Mathlib.Omega.{arith}
 use borrow.Author.Tests.{eqb-true, eq-eqb}
 use lib.Bits.{bitAnd, bitOr, or-add-and, and-le-l, and-le-r}
 use lib.Dec.{T, eqb}
 use lib.IntN.{pos, natAbs}
-use lib.ListN.{length, getD, take, drop, drop-of-length-le}
-use lib.Seq.{drop-cons}
+use lib.ListN.{length, getD, drop, drop-of-length-le}
 use lib.Ieee.{binary64, ofBits, ofFields, inSigned, toSigned}
 use Rattle.answer.proofs.Both.{not-true, no-both, both, both-l, both-r}
+use Rattle.answer.proofs.Alls.{stands, all-none, all-cons}
 use Rattle.extent.specs.Rank.{finite}
 use Rattle.extent.proofs.Tests.{same-test, T-true, true-T}
 use Rattle.extent.proofs.Patterns.{bits-not-finite, bits-back}
@@ -54,37 +53,10 @@ pub whole-of-minus-zero : (b : ℕ) → b ≡ 2 ^ 63 → pos 0 ≡ wholeOf b
 unfolding wholeOf ofBits ofFields
 whole-of-minus-zero b e = sym (ap wholeOf e)
 
--- ---- lists
-
-pub all-on-grid-at : (bs : List ℕ) (i : ℕ) → allOnGrid bs ≡ true → i < length bs → onGrid (getD bs i 0) ≡ true
-unfolding allOnGrid
-all-on-grid-at [] i e h = absurd (omega arith)
-all-on-grid-at (b ∷ bs) zero e h = both-l (onGrid b) (allOnGrid bs) e
-all-on-grid-at (b ∷ bs) (suc i) e h = all-on-grid-at bs i (both-r (onGrid b) (allOnGrid bs) e) (le-of-suc-le-suc h)
-
-pub all-on-grid-take : (k : ℕ) (bs : List ℕ) → allOnGrid bs ≡ true → allOnGrid (take k bs) ≡ true
-unfolding allOnGrid
-all-on-grid-take zero bs e = refl
-all-on-grid-take (suc k) [] e = refl
-all-on-grid-take (suc k) (b ∷ bs) e = both (both-l (onGrid b) (allOnGrid bs) e) (all-on-grid-take k bs (both-r (onGrid b) (allOnGrid bs) e))
-
-pub all-on-grid-drop : (i : ℕ) (bs : List ℕ) → allOnGrid bs ≡ true → allOnGrid (drop i bs) ≡ true
-unfolding allOnGrid
-all-on-grid-drop zero bs e = e
-all-on-grid-drop (suc i) [] e = refl
-all-on-grid-drop (suc i) (b ∷ bs) e = all-on-grid-drop i bs (both-r (onGrid b) (allOnGrid bs) e)
-
--- a part
-pub all-on-grid-part : (i k : ℕ) (bs : List ℕ) → allOnGrid bs ≡ true → allOnGrid (take k (drop i bs)) ≡ true
-all-on-grid-part i k bs e = all-on-grid-take k (drop i bs) (all-on-grid-drop i bs e)
-
 -- ---- a walk: of those from i on, the one at i and those after it
 
 walk-next : (bs : List ℕ) (i : ℕ) → i < length bs → allOnGrid (drop i bs) ≡ (onGrid (getD bs i 0) && allOnGrid (drop (i + 1) bs))
-walk-next bs i h = ap allOnGrid (drop-cons bs i 0 h) ∙ cons (getD bs i 0) (drop (suc i) bs) ∙ ap (λ (n : ℕ). onGrid (getD bs i 0) && allOnGrid (drop n bs)) (sym (add-one i))
-  where
-    cons : (b : ℕ) (bs : List ℕ) → allOnGrid (b ∷ bs) ≡ (onGrid b && allOnGrid bs)
-    cons b bs = unfold allOnGrid in refl
+walk-next bs i h = ap allOnGrid (stands bs i 0 h) ∙ all-cons onGrid (getD bs i 0) (drop (i + 1) bs)
 
 -- of two numbers no bit is set, if none is of either
 none-set : (a b : ℕ) → eqb (bitOr a b) 0 ≡ (eqb a 0 && eqb b 0)
@@ -115,5 +87,4 @@ walk-more bs i off r h e =
     ∙ ap (λ (t : Bool). eqb off 0 && t) (sym (walk-next bs i h))
 
 pub walk-done : (bs : List ℕ) (i off : ℕ) → length bs ≤ i → eqb off 0 ≡ (eqb off 0 && allOnGrid (drop i bs))
-unfolding allOnGrid
-walk-done bs i off h = sym (ap (λ (us : List ℕ). eqb off 0 && allOnGrid us) (drop-of-length-le bs h) ∙ and-true (eqb off 0))
+walk-done bs i off h = sym (ap (λ (t : Bool). eqb off 0 && t) (ap allOnGrid (drop-of-length-le bs h) ∙ all-none onGrid) ∙ and-true (eqb off 0))

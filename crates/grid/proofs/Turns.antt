@@ -15,6 +15,7 @@ use lib.Seq.{drop-cons}
 use mir.Syntax.{w64}
 use mir.Val.{SFits, ofZ}
 use Rattle.answer.proofs.Both.{both-l, both-r}
+use Rattle.answer.specs.Every.{allOf}
 use Rattle.grid.specs.Grid.{onGrid, wholeOf, allOnGrid}
 use Rattle.grid.specs.Turn.{edge, turnOf, clockwise, zeroTurn}
 use Rattle.grid.proofs.Sizes.{mul-within, add-within, sub-within}
@@ -28,7 +29,7 @@ edge-fits x0 y0 x1 y1 p q s t = sub-within (2 ^ 48) (2 ^ 48) (x0 *ℤ y1) (x1 *�
 
 -- a turn on grid is at most 2 ^ 49 for each edge, and there is one edge less than there are vertices
 pub turn-fits : (xs ys : List ℕ) → allOnGrid xs ≡ true → allOnGrid ys ≡ true → natAbs (turnOf xs ys) ≤ (length xs - 1) * 2 ^ 49
-unfolding turnOf allOnGrid
+unfolding turnOf allOf
 turn-fits (x0 ∷ x1 ∷ xs) (y0 ∷ y1 ∷ ys) p q =
     le-trans
     (add-within (2 ^ 49) ((length (x1 ∷ xs) - 1) * 2 ^ 49) (edge (wholeOf x0) (wholeOf y0) (wholeOf x1) (wholeOf y1)) (turnOf (x1 ∷ xs) (y1 ∷ ys))

@@ -1,10 +1,11 @@
 -- On grid: the value, in decimetres, is a whole number from -2 ^ 24 to 2 ^ 24 (-0 is 0). A pattern is a number below 2 ^ 64. Assumes nothing.
 use Prim.Native.Nat.{ℕ, _*_, _/_, _%_, _^_}
-use mathlib.Core.Bool.{Bool, true, false, _&&_}
-use mathlib.Core.List.{List, [], _∷_}
+use mathlib.Core.Bool.{Bool, false, _&&_}
+use mathlib.Core.List.{List}
 use lib.Dec.{leb, eqb}
 use lib.IntN.{ℤ, pos}
 use lib.Ieee.{Float, nan, inf, fin, up, down, binary64, ofBits}
+use Rattle.answer.specs.Every.{allOf}
 use Rattle.extent.specs.Rank.{signed}
 
 -- the size m * 2 ^ e, that is m * up e over down e, leaves nothing over and is at most 2 ^ 24; infinities and NaNs are off grid
@@ -28,6 +29,5 @@ unfoldable pub wholeOf : ℕ → ℤ
 wholeOf b = wholeOfFloat (ofBits binary64 b)
 
 -- all patterns of a list are on grid
-unfoldable pub allOnGrid : List ℕ → Bool
-allOnGrid [] = true
-allOnGrid (b ∷ bs) = onGrid b && allOnGrid bs
+abbrev pub allOnGrid : List ℕ → Bool
+allOnGrid = allOf onGrid

@@ -8,10 +8,10 @@ use denote.Ref.{RefT, now}
 use Rattle.column.specs.declared.Position.{Position}
 use Rattle.reader.specs.declared.Answer.{Answer}
 use Rattle.reader.specs.declared.Answer.the-variants.{Value, End, Refused}
-use Rattle.reader.specs.Run.{Run, follow, runOf}
-use Rattle.reader.proofs.Runs.{Runs, runs}
+use Rattle.reader.specs.Run.{Run, follow, runFrom, Runs}
+use Rattle.reader.proofs.Runs.{runs}
 use Rattle.holder.specs.declared.Reader.{Reader}
-use Rattle.holder.specs.Held.{opened, movedTo, answerOf, heldRun}
+use Rattle.holder.specs.Held.{newReader, movedTo, heldAnswer, heldRun}
 
 -- what goes on alike from each position is alike
 goes-alike : (a : Answer) (f g : Position → Run) → ((p : Position) → f p ≡ g p) → follow a f ≡ follow a g
@@ -20,14 +20,14 @@ goes-alike (End p) f g same = refl
 goes-alike (Refused w p) f g same = refl
 
 -- the run of a reader, at any position
-pub held-run : (most : ℕ) (r : Reader) → heldRun most r ≡ runOf 64 (now (r .src)) (r .n) most (r .pos)
-unfolding heldRun runOf
+pub held-run : (most : ℕ) (r : Reader) → heldRun most r ≡ runFrom 64 (now (r .src)) (r .n) most (r .pos)
+unfolding heldRun runFrom
 held-run zero r = refl
-held-run (suc most) r = goes-alike (answerOf r) _ _ (λ p. held-run most (movedTo r p))
+held-run (suc most) r = goes-alike (heldAnswer r) _ _ (λ p. held-run most (movedTo r p))
 
 -- from a position with none given, as a new reader's
 pub none-given : (r : Reader) → r .pos .given ≡ 0 → Runs 64 (now (r .src)) (r .n) (heldRun (suc (r .n)) r)
 none-given r e = rw (held-run (suc (r .n)) r) (runs 64 (now (r .src)) (r .n) (r .pos) (omega arith) e)
 
-pub held-runs : (s : RefT (List ℕ)) (n : ℕ) → Runs 64 (now s) n (heldRun (suc n) (opened s n))
-held-runs s n = none-given (opened s n) refl
+pub held-runs : (s : RefT (List ℕ)) (n : ℕ) → Runs 64 (now s) n (heldRun (suc n) (newReader s n))
+held-runs s n = none-given (newReader s n) refl

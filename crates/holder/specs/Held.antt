@@ -5,7 +5,7 @@ use mathlib.Core.List.{List, []}
 use denote.Ref.{RefT, now}
 use Rattle.column.specs.declared.Position.{Position}
 use Rattle.reader.specs.declared.Answer.{Answer}
-use Rattle.reader.specs.Next.{position, nextOf, answered}
+use Rattle.reader.specs.Next.{position, nextOf, answerWith}
 use Rattle.reader.specs.Run.{Run, follow}
 use Rattle.holder.specs.declared.Reader.{Reader}
 
@@ -14,18 +14,18 @@ abbrev pub fresh : Position
 fresh = position 0 0 0 0
 
 -- a new reader holds the bytes and the number that it is given, at a fresh position
-abbrev pub opened : RefT (List ℕ) → ℕ → Reader
-opened s n = record { src = s; n = n; pos = fresh }
+abbrev pub newReader : RefT (List ℕ) → ℕ → Reader
+newReader s n = record { src = s; n = n; pos = fresh }
 
 -- the same bytes and number, at another position
 abbrev pub movedTo : Reader → Position → Reader
 movedTo r p = record { src = r .src; n = r .n; pos = p }
 
 -- what a reader answers: the step, on the bytes that it holds
-abbrev pub answerOf : Reader → Answer
-answerOf r = answered (r .pos) (nextOf 64 (now (r .src)) (r .n) (r .pos))
+abbrev pub heldAnswer : Reader → Answer
+heldAnswer r = answerWith (r .pos) (nextOf 64 (now (r .src)) (r .n) (r .pos))
 
 -- a run of answers, of at most so many values: each is that of the reader moved to the position that the one before handed back
 unfoldable pub heldRun : ℕ → Reader → Run
-heldRun zero r = record { got = []; last = answerOf r }
-heldRun (suc most) r = follow (answerOf r) (λ p. heldRun most (movedTo r p))
+heldRun zero r = record { got = []; last = heldAnswer r }
+heldRun (suc most) r = follow (heldAnswer r) (λ p. heldRun most (movedTo r p))

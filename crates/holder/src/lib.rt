@@ -1,8 +1,8 @@
 // The column reader as a thing that holds the column's bytes and gives one value a call. It only holds: each answer is that of the step on the
 // bytes, `reader::next`. The struct is Copy; the position is handed back with each answer, and `moved` takes a reader there.
 ghost use mathlib.Core.Path.{_≡_};
-ghost use Rattle.reader.specs.Next.{nextOf, answered};
-ghost use Rattle.holder.specs.Held.{opened, movedTo, answerOf};
+ghost use Rattle.reader.specs.Next.{nextOf, answerWith};
+ghost use Rattle.holder.specs.Held.{newReader, movedTo, heldAnswer};
 use column::Position;
 use reader::Answer;
 
@@ -16,7 +16,7 @@ pub struct Reader<'a> {
 impl<'a> Reader<'a> {
     // A reader at a fresh position.
     pub fn new(src: &'a [u8], n: usize) -> Reader<'a>
-        ensures { λ r. ⌜ r ≡ opened (src .entry) n ⌝ }
+        ensures { λ r. ⌜ r ≡ newReader (src .entry) n ⌝ }
     {
         Reader {
             src,
@@ -50,7 +50,7 @@ impl<'a> Reader<'a> {
 
     // One value, or the end, or a refusal; with it the position to go on from.
     pub fn next(self) -> Answer
-        ensures { λ a. ⌜ a ≡ answerOf (self .entry) ⌝ }
+        ensures { λ a. ⌜ a ≡ heldAnswer (self .entry) ⌝ }
     {
         reader::next(self.src, self.n, self.pos)
     }
@@ -58,7 +58,7 @@ impl<'a> Reader<'a> {
 
 // What a reader of the column s of n values answers at a position: for callers that hold no reader.
 pub fn answer_at(s: &[u8], n: usize, p: Position) -> Answer
-    ensures { λ r. ⌜ r ≡ answered p (nextOf 64 (now (s .entry)) n p) ⌝ }
+    ensures { λ r. ⌜ r ≡ answerWith p (nextOf 64 (now (s .entry)) n p) ⌝ }
 {
     Reader::new(s, n).moved(p).next()
 }

@@ -5,9 +5,9 @@ use mathlib.Core.List.{List}
 use Prim.Native.Nat.{ℕ, _+_, _*_, _/_, _%_, _^_, _<_}
 use native.Mathlib.Omega.{arith}
 use lib.ListN.{getD}
-use Rattle.le.specs.Number.{number, field}
+use Rattle.le.specs.Number.{number, field, Bytes}
 use Rattle.le.proofs.Fields.{inside}
-use Rattle.le.proofs.Numbers.{Bytes, byte-at}
+use Rattle.le.proofs.Numbers.{byte-at}
 
 -- bit k of the bytes is bit k mod 8 of byte k / 8
 pub bit-of-byte : (s : List ℕ) (k : ℕ) → Bytes s → number s / 2 ^ k % 2 ≡ getD s (k / 8) 0 / 2 ^ (k % 8) % 2

@@ -17,7 +17,7 @@ use Rattle.le.specs.declared.block.Block.{Block}
 use Rattle.le.specs.declared.block.BlockRead.{BlockRead}
 use Rattle.le.specs.declared.block.BlockRead.the-variants.{Found, Refused}
 use Rattle.le.specs.Number.{numberAt, bytesOf}
-use Rattle.le.specs.Block.{presentAt, blockAt, said, headOf}
+use Rattle.le.specs.Block.{presentAt, blockAt, saidBlock, blockHead}
 use Rattle.le.proofs.Bytes.{length-bytesOf, number-at-append, number-at-bytesOf}
 use Rattle.le.proofs.Stores.{sets-append}
 
@@ -70,8 +70,8 @@ block-fits s at b e = let p = block-says s at b e in rw (← p .1) (present-fits
 -- ---- what is said
 
 -- an answer is determined by what it says
-pub said-one : (a b : BlockRead) → said a ≡ said b → a ≡ b
-unfolding said
+pub said-one : (a b : BlockRead) → saidBlock a ≡ saidBlock b → a ≡ b
+unfolding saidBlock
 said-one (Found a) (Found b) e = ap Found (ok-inj e)
 said-one (Found a) (Refused w) e = absurd (never (sym e))
 said-one (Refused w) (Found b) e = absurd (never e)
@@ -79,23 +79,23 @@ said-one (Refused w) (Refused x) e = ap Refused (refused-inj e)
 
 -- ---- a head that is put
 
-pub length-head : (len kind : ℕ) → length (headOf len kind) ≡ 6
-unfolding headOf
+pub length-head : (len kind : ℕ) → length (blockHead len kind) ≡ 6
+unfolding blockHead
 length-head len kind = length-append (bytesOf 4 len) (bytesOf 2 kind) ∙ omega (arith, length-bytesOf 4 len, length-bytesOf 2 kind)
 
 -- the length and then the kind
-pub put-head : (d : List ℕ) (at len kind : ℕ) → sets (sets d at (bytesOf 4 len)) (at + 4) (bytesOf 2 kind) ≡ sets d at (headOf len kind)
-unfolding headOf
+pub put-head : (d : List ℕ) (at len kind : ℕ) → sets (sets d at (bytesOf 4 len)) (at + 4) (bytesOf 2 kind) ≡ sets d at (blockHead len kind)
+unfolding blockHead
 put-head d at len kind =
     sym (sets-append (bytesOf 4 len) (bytesOf 2 kind) d at ∙ ap (λ (k : ℕ). sets (sets d at (bytesOf 4 len)) (at + k) (bytesOf 2 kind)) (length-bytesOf 4 len))
 
 -- and it reads back: the length, then the kind
-pub head-len : (len kind : ℕ) (r : List ℕ) → numberAt 4 (headOf len kind ++ r) 0 ≡ len % 2 ^ 32
-unfolding headOf
+pub head-len : (len kind : ℕ) (r : List ℕ) → numberAt 4 (blockHead len kind ++ r) 0 ≡ len % 2 ^ 32
+unfolding blockHead
 head-len len kind r = ap (λ (l : List ℕ). numberAt 4 l 0) (append-assoc (bytesOf 4 len) (bytesOf 2 kind) r) ∙ number-at-bytesOf 4 len (bytesOf 2 kind ++ r)
 
-pub head-kind : (len kind : ℕ) (r : List ℕ) → numberAt 2 (headOf len kind ++ r) 4 ≡ kind % 2 ^ 16
-unfolding headOf
+pub head-kind : (len kind : ℕ) (r : List ℕ) → numberAt 2 (blockHead len kind ++ r) 4 ≡ kind % 2 ^ 16
+unfolding blockHead
 head-kind len kind r =
     let e : 4 ≡ length (bytesOf 4 len) + 0 = omega (arith, length-bytesOf 4 len) in
     ap₂ (numberAt 2) (append-assoc (bytesOf 4 len) (bytesOf 2 kind) r) e

@@ -8,8 +8,7 @@ use lib.Arith.{digits-div, digits-mod}
 use lib.ListN.{length, take, drop}
 use lib.Seq.{take-take, take-at, drop-drop, drop-append-add}
 use lib.Pow.{mod-pow-add}
-use Rattle.le.specs.Number.{number, bytesOf, numberAt}
-use Rattle.le.proofs.Numbers.{Bytes}
+use Rattle.le.specs.Number.{number, bytesOf, numberAt, Bytes}
 
 pub length-bytesOf : (k x : ℕ) → length (bytesOf k x) ≡ k
 unfolding bytesOf

@@ -8,13 +8,8 @@ use lib.Arith.{digits-div, digits-mod, digits-lt}
 use lib.ListN.{length, getD, take, drop, length-drop, drop-of-length-le}
 use lib.Seq.{drop-cons, drop-length}
 use lib.Pow.{pow-pos, pow-mono, pow-add, shr-shr, mod-pow-add}
-use Rattle.le.specs.Number.{number, numberAt, field}
+use Rattle.le.specs.Number.{Bytes, number, numberAt, field}
 use Rattle.le.proofs.Fields.{parts-mod}
-
--- ---- a list of bytes
-
-abbrev pub Bytes : List ℕ → Type 0
-Bytes s = (i : ℕ) → getD s i 0 < 256
 
 -- the number without its lowest byte
 number-tail : (b : ℕ) (s : List ℕ) → Bytes (b ∷ s) → number (b ∷ s) / 256 ≡ number s

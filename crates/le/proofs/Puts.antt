@@ -1,4 +1,4 @@
--- Laws of Put, and of the list that a store of a field leaves. Assumes nothing.
+-- What a store of a field leaves, of the bits up to its own; and that `putField` is such a store. Assumes nothing.
 use mathlib.Core.Path.{_≡_, refl, sym, ap, ap₂, _∙_, subst}
 use mathlib.Core.Bool.{Bool, true, false}
 use mathlib.Core.List.{List, [], _∷_}
@@ -11,12 +11,17 @@ use lib.Dec.{leb}
 use lib.ListN.{length, set, length-set}
 use lib.Seq.{getD-set-same, sets, length-sets}
 use lib.Pow.{pow-pos, pow-add, mod-pow-add}
-use Rattle.le.specs.Number.{number, bytesOf}
-use Rattle.le.specs.Put.{Put, putField}
+use Rattle.le.specs.Number.{number, bytesOf, Bytes}
+use Rattle.le.specs.Put.{putField}
 use Rattle.le.proofs.Fields.{mod-le-pow, parts-mod}
-use Rattle.le.proofs.Numbers.{Bytes, byte-at}
+use Rattle.le.proofs.Numbers.{byte-at}
 use Rattle.le.proofs.Bytes.{bytes-bytesOf}
 use Rattle.le.proofs.Stores.{bytes-set, bytes-sets, sets-more, sets-past}
+
+-- t is s with v in the w bits from place at on: what stood below the place still stands there. Above at + w anything may stand
+pub record Put (s t : List ℕ) (at w v : ℕ) : Type 0 where
+  pub same : length t ≡ length s
+  pub low : number t % 2 ^ (at + w) ≡ v * 2 ^ at + number s % 2 ^ at
 
 -- a store leaves what stands below
 below-set : (s : List ℕ) (i b : ℕ) → Bytes s → number (set s i b) % 2 ^ (8 * i) ≡ number s % 2 ^ (8 * i)

@@ -7,8 +7,7 @@ use native.Mathlib.Omega.{arith}
 use lib.ListN.{length, set}
 use lib.Seq.{sets, length-sets, set-out}
 use lib.Pow.{shr-shr}
-use Rattle.le.specs.Number.{bytesOf}
-use Rattle.le.proofs.Numbers.{Bytes}
+use Rattle.le.specs.Number.{bytesOf, Bytes}
 
 -- ---- the list stays one of bytes
 

@@ -23,10 +23,10 @@ blockAt s at =
     (ok (record { kind = numberAt 2 s (at + 4); body = at + 6; len = numberAt 4 s at }))
 
 -- what the code's answer says
-unfoldable pub said : BlockRead → Out Block
-said (Found b) = ok b
-said (Refused w) = refused w
+unfoldable pub saidBlock : BlockRead → Out Block
+saidBlock (Found b) = ok b
+saidBlock (Refused w) = refused w
 
 -- the head of a block, as bytes
-unfoldable pub headOf : ℕ → ℕ → List ℕ
-headOf len kind = bytesOf 4 len ++ bytesOf 2 kind
+unfoldable pub blockHead : ℕ → ℕ → List ℕ
+blockHead len kind = bytesOf 4 len ++ bytesOf 2 kind

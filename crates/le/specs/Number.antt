@@ -1,8 +1,12 @@
 -- The number that bytes are, and the fields of its bits. All numbers are little-endian; bit k of a run of bytes is bit k mod 8 of byte k / 8,
 -- lowest first. So the bytes are one number, whose bit k that is. Assumes nothing.
-use Prim.Native.Nat.{ℕ, zero, suc, _+_, _*_, _/_, _%_, _^_}
+use Prim.Native.Nat.{ℕ, zero, suc, _+_, _*_, _/_, _%_, _^_, _<_}
 use mathlib.Core.List.{List, [], _∷_, _++_}
-use lib.ListN.{take, drop}
+use lib.ListN.{getD, take, drop}
+
+-- each of the list is a byte
+abbrev pub Bytes : List ℕ → Type 0
+Bytes s = (i : ℕ) → getD s i 0 < 256
 
 -- the number that bytes are, the first lowest
 unfoldable pub number : List ℕ → ℕ

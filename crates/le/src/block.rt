@@ -7,7 +7,7 @@ ghost use lib.Seq.{sets};
 ghost use Rattle.answer.specs.Table.{cut};
 ghost use Rattle.answer.specs.Refusal.{because};
 ghost use Rattle.answer.specs.Outcome.{refused, ok};
-ghost use Rattle.le.specs.Block.{presentAt, blockAt, said, headOf};
+ghost use Rattle.le.specs.Block.{presentAt, blockAt, saidBlock, blockHead};
 use crate::number::put_u16;
 use crate::number::put_u32;
 use crate::number::u16_at;
@@ -30,7 +30,7 @@ pub enum BlockRead {
 
 // A length doesn't fit.
 fn short() -> BlockRead
-    ensures { λ r. ⌜ said r ≡ refused (because cut) ⌝ }
+    ensures { λ r. ⌜ saidBlock r ≡ refused (because cut) ⌝ }
 {
     BlockRead::Refused(Refusal::because(LENGTH))
 }
@@ -67,7 +67,7 @@ pub fn block_in(s: &[u8], at: usize) -> Block
 
 // The block whose head stands at a place, any place.
 pub fn block_at(s: &[u8], at: usize) -> BlockRead
-    ensures { λ r. ⌜ said r ≡ blockAt (now (s .entry)) at ⌝ }
+    ensures { λ r. ⌜ saidBlock r ≡ blockAt (now (s .entry)) at ⌝ }
 {
     if present(s, at) {
         return BlockRead::Found(block_in(s, at));
@@ -78,7 +78,7 @@ pub fn block_at(s: &[u8], at: usize) -> BlockRead
 // Puts a block's head from place at on; the rest stays.
 pub fn put_head(d: &mut [u8], at: usize, len: u64, kind: u64)
     requires { ⌜ at + 6 ≤ length (now d) ⌝ }
-    ensures { λ r. ⌜ now (d .exit) ≡ sets (now (d .entry)) at (headOf len kind) ⌝ }
+    ensures { λ r. ⌜ now (d .exit) ≡ sets (now (d .entry)) at (blockHead len kind) ⌝ }
 {
     put_u32(d, at, len);
     put_u16(d, at + 4, kind);

@@ -9,6 +9,6 @@ numberOf (Start k) = 0
 numberOf (Refused w) = w .number
 
 -- how many elements were put there, or 2^32 times the refusal's number
-unfoldable pub countOf : Filled → ℕ
-countOf (Start k) = k
-countOf (Refused w) = w .number * 2 ^ 32
+unfoldable pub filledCount : Filled → ℕ
+filledCount (Start k) = k
+filledCount (Refused w) = w .number * 2 ^ 32

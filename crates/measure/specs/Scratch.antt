@@ -7,8 +7,8 @@ use mathlib.Core.Bool.{cond}
 use Rattle.column.specs.Read.{scratchOf}
 
 -- what is left in a room that held d: a refusal by 3 or 2 changes nothing, any other leaves what a decoding leaves
-unfoldable pub leftBy : ℕ → List ℕ → ℕ → List ℕ → List ℕ
-leftBy P s n d =
+unfoldable pub scratchLeft : ℕ → List ℕ → ℕ → List ℕ → List ℕ
+scratchLeft P s n d =
     cond (leb n 2048)
     (cond (leb n (length d)) (scratchOf P s n d) d)
     d

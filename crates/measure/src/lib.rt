@@ -4,10 +4,10 @@ ghost use lib.ListN.{length};
 ghost use Rattle.answer.specs.Outcome.{filled, answered};
 ghost use Rattle.column.specs.Read.{readOf};
 ghost use Rattle.column.specs.Write.{writeOf};
-ghost use Rattle.measure.specs.Answers.{numberOf, countOf};
+ghost use Rattle.measure.specs.Answers.{numberOf, filledCount};
 ghost use Rattle.reader.specs.Next.{position};
-ghost use Rattle.reader.specs.Run.{runOf};
-ghost use Rattle.measure.specs.Scratch.{leftBy};
+ghost use Rattle.reader.specs.Run.{runFrom};
+ghost use Rattle.measure.specs.Scratch.{scratchLeft};
 ghost use Rattle.measure.specs.Sum.{sumOf};
 ghost use Prim.Native.Nat.{_+_};
 use answer::Filled;
@@ -26,7 +26,7 @@ fn number_of(f: Filled) -> u64
 
 // How many elements were put in the room, or 2^32 times the refusal's number.
 fn count_of(f: Filled) -> u64
-    ensures { λ r. ⌜ r ≡ countOf f ⌝ }
+    ensures { λ r. ⌜ r ≡ filledCount f ⌝ }
 {
     match f {
         Filled::Start(k) => k as u64,
@@ -47,7 +47,7 @@ pub extern "C" fn measure_read(s: &[u8], n: usize, out: &mut [u64]) -> u64
 #[no_mangle]
 pub extern "C" fn measure_decode(s: &[u8], n: usize, out: &mut [u64]) -> u64
     ensures { λ r. ⌜ (r ≡ numberOf (answered (readOf 64 (now (s .entry)) n (length (now (out .entry))))))
-        × (now (out .exit) ≡ leftBy 64 (now (s .entry)) n (now (out .entry))) ⌝ }
+        × (now (out .exit) ≡ scratchLeft 64 (now (s .entry)) n (now (out .entry))) ⌝ }
 {
     if 2048 < n {
         return le::number::wide(answer::table::MANY);
@@ -61,7 +61,7 @@ pub extern "C" fn measure_decode(s: &[u8], n: usize, out: &mut [u64]) -> u64
 // Writes the column of vs: its size in bytes, or 2^32 times the refusal's number.
 #[no_mangle]
 pub extern "C" fn measure_write(vs: &[u64], out: &mut [u8]) -> u64
-    ensures { λ r. ⌜ (r ≡ countOf (answered (writeOf 64 (now (vs .entry)) (length (now (out .entry))))))
+    ensures { λ r. ⌜ (r ≡ filledCount (answered (writeOf 64 (now (vs .entry)) (length (now (out .entry))))))
         × (now (out .exit) ≡ filled (writeOf 64 (now (vs .entry)) (length (now (out .entry)))) (now (out .entry))) ⌝ }
 {
     count_of(column::write::write(vs, out))
@@ -70,7 +70,7 @@ pub extern "C" fn measure_write(vs: &[u64], out: &mut [u8]) -> u64
 // Reads a column of at most 2,048 values one by one: the sum of the values that the run gives, wrapped at 64 bits.
 #[no_mangle]
 pub extern "C" fn measure_steps(s: &[u8], n: usize) -> u64
-    ensures { λ r. ⌜ r ≡ sumOf (runOf 64 (now (s .entry)) n (n + 1) (position 0 0 0 0) .got) ⌝ }
+    ensures { λ r. ⌜ r ≡ sumOf (runFrom 64 (now (s .entry)) n (n + 1) (position 0 0 0 0) .got) ⌝ }
 {
     if 2048 < n {
         return 0;

@@ -14,7 +14,7 @@ use Rattle.extent.specs.Boxes.{patterns}
 use Rattle.types.specs.Parts.{partsHold, partsRule}
 use Rattle.types.proofs.Agreeing.{agree-even}
 use Rattle.types.proofs.Passed.{parts-passed, hold-agree}
-use Rattle.shape.specs.Outline.{Outline, Shape, outlinesOf, shapesOf}
+use Rattle.shape.specs.Outline.{Outline, Shape, outlinesOf, registered}
 use Rattle.shape.specs.Rules.{boxHolds, boxRule}
 use Rattle.shape.proofs.Outlines.{outlines-length, shapes-length}
 use Rattle.frame.specs.declared.head.Head.{Head}
@@ -31,7 +31,7 @@ pub record Contained (h : Head) (b : List ℕ) (ss : List Shape) : Type 0 where
   pub vertices : verticesOf h b ≡ ok (record { xs = xs; ys = ys })
   pub parts : partsHold (typesOf h b) (countsOf h b) (lensOf h b) (h .v) ≡ true
   pub box : boxHolds (patterns (h .bounds)) xs ys ≡ true
-  pub shapes : shapesOf (registersOf h b) (outlinesOf (typesOf h b) (countsOf h b) (lensOf h b) xs ys) ≡ ss
+  pub shapes : registered (registersOf h b) (outlinesOf (typesOf h b) (countsOf h b) (lensOf h b) xs ys) ≡ ss
 
 pub contents-contained : (h : Head) (b : List ℕ) (ss : List Shape) → contentsOf h b ≡ ok ss → Contained h b ss
 unfolding contentsOf boxRule
@@ -63,8 +63,8 @@ module _ (h : Head) (b : List ℕ) where
   registers-long = length-numbers 4 (h .g) b (h .layout .registers)
 
 -- shapes without their registers
-outlines-back : (rs : List ℕ) (os : List Outline) → length rs ≡ length os → map (λ (s : Shape). s .outline) (shapesOf rs os) ≡ os
-unfolding shapesOf
+outlines-back : (rs : List ℕ) (os : List Outline) → length rs ≡ length os → map (λ (s : Shape). s .outline) (registered rs os) ≡ os
+unfolding registered
 outlines-back [] [] e = refl
 outlines-back [] (o ∷ os) e = absurd (omega arith)
 outlines-back (r ∷ rs) [] e = refl
@@ -80,10 +80,10 @@ module _ (h : Head) (b xs ys : List ℕ) (q : partsHold (typesOf h b) (countsOf 
       let e = agree-even (typesOf h b) (countsOf h b) (lensOf h b) (hold-agree (typesOf h b) (countsOf h b) (lensOf h b) (h .v) q) in
       outlines-length (typesOf h b) (countsOf h b) (lensOf h b) xs ys e ∙ e ∙ counts-long h b
 
-  shapes-long : length (shapesOf (registersOf h b) os) ≡ h .g
+  shapes-long : length (registered (registersOf h b) os) ≡ h .g
   shapes-long = shapes-length (registersOf h b) os (registers-long h b ∙ sym outlines-long) ∙ outlines-long
 
-  pub shapes-outlines : map (λ (s : Shape). s .outline) (shapesOf (registersOf h b) (outlinesOf (typesOf h b) (countsOf h b) (lensOf h b) xs ys))
+  pub shapes-outlines : map (λ (s : Shape). s .outline) (registered (registersOf h b) (outlinesOf (typesOf h b) (countsOf h b) (lensOf h b) xs ys))
       ≡ outlinesOf (typesOf h b) (countsOf h b) (lensOf h b) xs ys
   shapes-outlines = outlines-back (registersOf h b) os (registers-long h b ∙ sym outlines-long)
 

@@ -13,8 +13,7 @@ use Rattle.answer.specs.declared.Verdict.{Verdict}
 use Rattle.answer.specs.declared.Verdict.the-variants.{Holds, Refused}
 use Rattle.answer.proofs.Outcomes.{on-ok}
 use Rattle.answer.proofs.Rules.{judged-holds, judged-refused, passed-ok, passed-refused, refused-passed, rule-ok}
-use Rattle.le.specs.Number.{numbersAt}
-use Rattle.le.proofs.Numbers.{Bytes}
+use Rattle.le.specs.Number.{numbersAt, Bytes}
 use Rattle.extent.specs.Rank.{allFinite}
 use Rattle.extent.specs.Boxes.{Bounds, patterns, FiniteBox}
 use Rattle.types.specs.Parts.{partsHold, partsRule}
@@ -24,7 +23,7 @@ use Rattle.frame.specs.Layout.{layoutOf}
 use Rattle.frame.specs.Head.{headOf}
 use Rattle.frame.proofs.Layouts.{columns-at}
 use Rattle.frame.proofs.Heads.{Headed, head-is, head-limits, head-finite, head-patterns}
-use Rattle.shape.specs.Outline.{Outline, Shape, outlinesOf, shapesOf}
+use Rattle.shape.specs.Outline.{Outline, Shape, outlinesOf, registered}
 use Rattle.shape.specs.Rules.{boxHolds, boxRule}
 use Rattle.page.specs.Contents.{registersOf, typesOf, countsOf, lensOf, Vertices, verticesOf, outlineRules, contentsOf}
 use Rattle.page.specs.Loaded.{Columns, Loaded, Loads}
@@ -121,7 +120,7 @@ module _ (h : Head) (b counts lens xs ys types : List ℕ) (v : ℕ) (ec : count
       abbrev pub rules : Out (Unit {0})
       rules = on (outlineRules os xs ys) (λ _. boxRule (patterns (h .bounds)) xs ys)
 
-      contents : contentsOf h b ≡ on rules (λ _. ok (shapesOf (registersOf h b) os))
+      contents : contentsOf h b ≡ on rules (λ _. ok (registered (registersOf h b) os))
       unfolding contentsOf
       contents =
           then-holds (partsRule (typesOf h b) (countsOf h b) (lensOf h b) (h .v)) _ (pr ∙ first)

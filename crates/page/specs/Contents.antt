@@ -9,7 +9,7 @@ use Rattle.column.specs.Read.{decodeOf}
 use Rattle.extent.specs.Boxes.{patterns}
 use Rattle.types.specs.Parts.{partsRule}
 use Rattle.frame.specs.declared.head.Head.{Head}
-use Rattle.shape.specs.Outline.{Outline, Shape, outlinesOf, shapesOf}
+use Rattle.shape.specs.Outline.{Outline, Shape, outlinesOf, registered}
 use Rattle.shape.specs.Rules.{finiteRule, ringRule, gridRule, turnRule, boxRule}
 
 -- ---- what stands in a body, where its layout says
@@ -30,10 +30,11 @@ countsOf h b = numbersAt 2 (h .g) b (h .layout .counts)
 unfoldable pub lensOf : Head → List ℕ → List ℕ
 lensOf h b = numbersAt 2 (h .p) b (h .layout .lens)
 
--- the bytes of the x column, and of the y column behind it
+-- the bytes of the x column
 unfoldable pub xPart : Head → List ℕ → List ℕ
 xPart h b = take (h .cx) (drop (h .layout .columns) b)
 
+-- the bytes of the y column, behind it
 unfoldable pub yPart : Head → List ℕ → List ℕ
 yPart h b = take (h .cy) (drop (h .layout .columns + h .cx) b)
 
@@ -67,4 +68,4 @@ contentsOf h b =
     let os = outlinesOf (typesOf h b) (countsOf h b) (lensOf h b) (t .xs) (t .ys) in
     on (outlineRules os (t .xs) (t .ys)) (λ _.
     on (boxRule (patterns (h .bounds)) (t .xs) (t .ys)) (λ _.
-    ok (shapesOf (registersOf h b) os)))))
+    ok (registered (registersOf h b) os)))))

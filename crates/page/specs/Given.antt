@@ -1,4 +1,4 @@
--- A call that fills a scratch of the caller's own. Assumes nothing.
+-- A call that fills a scratch of the caller's own: for inner walks; no service speaks of it. Assumes nothing.
 use Prim.Native.Nat.{ℕ}
 use mathlib.Core.Path.{_≡_}
 use mathlib.Core.List.{List}

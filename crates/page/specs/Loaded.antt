@@ -1,4 +1,5 @@
--- A page whose contents were read into its scratch: what the call says, and what the scratch then holds. Assumes nothing.
+-- A page whose contents were read into its scratch, what the call says and what the scratch then holds: for inner walks; no service speaks of it.
+-- Assumes nothing.
 use Prim.Native.Nat.{ℕ}
 use mathlib.Core.Path.{_≡_}
 use mathlib.Core.Bool.{true}
@@ -11,9 +12,9 @@ use Rattle.extent.specs.Rank.{allFinite}
 use Rattle.extent.specs.Boxes.{patterns}
 use Rattle.types.specs.Parts.{partsHold}
 use Rattle.frame.specs.declared.head.Head.{Head}
-use Rattle.shape.specs.Outline.{outlinesOf, shapesOf}
+use Rattle.shape.specs.Outline.{outlinesOf, registered}
 use Rattle.shape.specs.Rules.{boxHolds}
-use Rattle.page.specs.Contents.{registersOf, typesOf, countsOf, lensOf, Vertices, verticesOf, contentsOf}
+use Rattle.page.specs.Contents.{registersOf, typesOf, countsOf, lensOf, verticesOf, contentsOf}
 
 -- the two columns: their verdict, and where it holds the scratch is the page's vertices
 pub record Columns (h : Head) (b : List ℕ) (says : Verdict) (xs ys : List ℕ) : Type 0 where
@@ -29,7 +30,7 @@ pub record Loaded (h : Head) (b counts lens xs ys : List ℕ) : Type 0 where
   pub finite-x : allFinite xs ≡ true
   pub finite-y : allFinite ys ≡ true
   pub box : boxHolds (patterns (h .bounds)) xs ys ≡ true
-  pub shapes : contentsOf h b ≡ ok (shapesOf (registersOf h b) (outlinesOf (typesOf h b) counts lens xs ys))
+  pub shapes : contentsOf h b ≡ ok (registered (registersOf h b) (outlinesOf (typesOf h b) counts lens xs ys))
 
 -- the contract: the verdict is that of the page's contents, and where it holds the scratch is as above
 pub record Loads (h : Head) (b : List ℕ) (says : Verdict) (counts lens xs ys : List ℕ) : Type 0 where

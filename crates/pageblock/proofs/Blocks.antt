@@ -16,30 +16,30 @@ use Rattle.answer.proofs.Outcomes.{ok-inj, on-ok, met, unmet}
 use Rattle.answer.proofs.Rules.{judged-holds}
 use Rattle.page.proofs.Orders.{on-refused, on-value, then-refused, then-holds}
 use Rattle.pageblock.specs.Body.{Handed, pageBytes}
-use Rattle.pageblock.specs.Page.{pageRules, pageOf, roomFor, pageBlockOf}
+use Rattle.pageblock.specs.Page.{pageRules, pageWritten, roomFor, pageBlockOf}
 use Rattle.pageblock.proofs.Passing.{Passed, rules-passed}
 
 module _ (i : Handed) where
-  pub page-refused : (w : Refusal) → judged (verdict.Refused w) ≡ pageRules i → pageOf i ≡ refused w
-  unfolding pageOf
+  pub page-refused : (w : Refusal) → judged (verdict.Refused w) ≡ pageRules i → pageWritten i ≡ refused w
+  unfolding pageWritten
   page-refused w e = then-refused _ _ w e
 
-  pub page-ok : judged verdict.Holds ≡ pageRules i → pageOf i ≡ ok (pageBytes i)
-  unfolding pageOf
+  pub page-ok : judged verdict.Holds ≡ pageRules i → pageWritten i ≡ ok (pageBytes i)
+  unfolding pageWritten
   page-ok e = then-holds _ _ e
 
   pub page-passed : judged verdict.Holds ≡ pageRules i → Passed i
   page-passed e = rules-passed i tt (sym e ∙ judged-holds)
 
   -- where it is a value, that is the page's bytes, and the rules have passed
-  pub page-ok-is : (bytes : List ℕ) → pageOf i ≡ ok bytes → (bytes ≡ pageBytes i) × Passed i
-  unfolding pageOf
+  pub page-ok-is : (bytes : List ℕ) → pageWritten i ≡ ok bytes → (bytes ≡ pageBytes i) × (pageRules i ≡ ok tt)
+  unfolding pageWritten
   page-ok-is bytes e =
       let a = on-ok _ _ _ e in
-      (sym (ok-inj (a .2)), rules-passed i (a .0) (a .1))
+      (sym (ok-inj (a .2)), a .1)
 
   -- the same page has the same bytes, whoever writes it
-  pub page-one : (b c : List ℕ) → pageOf i ≡ ok b → pageOf i ≡ ok c → b ≡ c
+  pub page-one : (b c : List ℕ) → pageWritten i ≡ ok b → pageWritten i ≡ ok c → b ≡ c
   page-one b c e f = page-ok-is b e .0 ∙ sym (page-ok-is c f .0)
 
   module _ (room : ℕ) where

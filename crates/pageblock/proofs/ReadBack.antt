@@ -10,18 +10,18 @@ use borrow.Author.Tests.{eqb-true, eqb-false}
 use Rattle.answer.specs.Table as table
 use Rattle.answer.specs.Outcome.{ok}
 use Rattle.answer.proofs.Rules.{rule-holds}
-use Rattle.extent.specs.Boxes.{Bounds, boundsAt, patterns, spotOf, boxOf}
+use Rattle.extent.specs.Boxes.{Bounds, boundsAt, patterns, spotOf, boxOf, Words}
 use Rattle.extent.specs.Forms.{floatsOf}
 use Rattle.extent.proofs.Boxed.{box-met, box-good}
-use Rattle.extent.proofs.Firsts.{Met}
-use Rattle.extent.proofs.Forms.{Words, floats-patterns}
+use Rattle.extent.specs.FirstMet.{Met}
+use Rattle.extent.proofs.Forms.{floats-patterns}
 use Rattle.extent.proofs.Sames.{same-box-refl}
 use Rattle.entry.proofs.Entries.{all-below}
 use Rattle.column.specs.Column.{encode}
 use Rattle.column.specs.Read.{decodeOf}
 use Rattle.column.proofs.Trips.{decodes-written}
 use Rattle.types.specs.Parts.{partsRule}
-use Rattle.shape.specs.Outline.{shapesOf}
+use Rattle.shape.specs.Outline.{registered}
 use Rattle.shape.specs.Rules.{boxHolds, boxRule}
 use Rattle.frame.specs.declared.layout.Layout.{Layout}
 use Rattle.frame.specs.Layout.{each, layoutOf}
@@ -34,7 +34,8 @@ use Rattle.page.specs.Contents.{registersOf, typesOf, countsOf, lensOf, xPart, 
 use Rattle.page.proofs.Orders.{on-value}
 use Rattle.pageblock.specs.Body.{Handed, bodyOf}
 use Rattle.pageblock.specs.Page.{outlines}
-use Rattle.pageblock.specs.Ready.{Sound, Typed}
+use Rattle.pageblock.specs.Typed.{Typed}
+use Rattle.pageblock.specs.Ready.{Sound}
 use Rattle.pageblock.specs.Written.{headFor, pageFor}
 use Rattle.pageblock.proofs.Passing.{Passed, even-limits, passed-sound}
 use Rattle.pageblock.proofs.Sizes.{body-size, column-most}
@@ -224,7 +225,7 @@ module _ (i : Handed) (t : Typed i) (q : Passed i) where
       either-true false b e = e
 
   -- the body has the contents that were handed in
-  pub body-contents : contentsOf (headFor i) (bodyOf i) ≡ ok (shapesOf (i .registers) (outlines i))
+  pub body-contents : contentsOf (headFor i) (bodyOf i) ≡ ok (registered (i .registers) (outlines i))
   unfolding contentsOf
   body-contents =
       let parts : partsRule (i .types) (i .counts) (i .lens) (headFor i .v) ≡ ok tt = ap (partsRule (i .types) (i .counts) (i .lens)) (head-vertices i) ∙ q .parts in
@@ -235,6 +236,6 @@ module _ (i : Handed) (t : Typed i) (q : Passed i) where
       ∙ on-value _ _ tt box-passes)
 
   -- and so has the page of a file
-  pub page-contents : contentsOf (pageFor i .head) (pageFor i .body) ≡ ok (shapesOf (i .registers) (outlines i))
+  pub page-contents : contentsOf (pageFor i .head) (pageFor i .body) ≡ ok (registered (i .registers) (outlines i))
   unfolding pageFor
   page-contents = body-contents

@@ -10,7 +10,7 @@ use Rattle.le.specs.Number.{bytesOf, runOf}
 use Rattle.le.proofs.Bytes.{length-bytesOf}
 use Rattle.le.proofs.Runs.{length-run}
 use Rattle.le.proofs.Stores.{sets-append}
-use Rattle.le.specs.Block.{headOf}
+use Rattle.le.specs.Block.{blockHead}
 use Rattle.le.proofs.Blocks.{length-head}
 use Rattle.width.specs.Width.{widthOf}
 use Rattle.column.specs.Column.{encodeAt, encode}
@@ -86,7 +86,7 @@ column-part d vs at n w h e f =
 
 -- the head of the block, the counts, the box, the tables and the columns
 pub page-put : (i : Handed) (d d₁ d₂ d₃ d₄ d₅ : List ℕ) (len t k : ℕ) → len ≡ length (bodyOf i) → t ≡ 44
-    → k ≡ 44 + length (tableBytes (i .registers) (i .types) (i .counts) (i .lens)) → d₁ ≡ sets d 0 (headOf len 2)
+    → k ≡ 44 + length (tableBytes (i .registers) (i .types) (i .counts) (i .lens)) → d₁ ≡ sets d 0 (blockHead len 2)
     → d₂ ≡ sets d₁ 6 (countBytes (length (i .registers)) (length (i .xs)) (length (i .lens))) → d₃ ≡ sets d₂ 12 (boxBytes (boxOf (i .xs) (i .ys)))
     → d₄ ≡ sets d₃ t (tableBytes (i .registers) (i .types) (i .counts) (i .lens)) → d₅ ≡ sets d₄ k (columnBytes (i .xs) (i .ys)) → d₅ ≡ sets d 0 (pageBytes i)
 unfolding pageBytes blockOf bodyOf
@@ -96,7 +96,7 @@ page-put i d d₁ d₂ d₃ d₄ d₅ len t k el et ek e₁ e₂ e₃ e₄ e₅ 
     let s = tableBytes (i .registers) (i .types) (i .counts) (i .lens) in
     let z = columnBytes (i .xs) (i .ys) in
     let n = length (bodyOf i) in
-    store (headOf n 2) (bodyOf i) d d₁ d₅ 0 6 (e₁ ∙ ap (λ (m : ℕ). sets d 0 (headOf m 2)) el) (omega (arith, length-head n 2))
+    store (blockHead n 2) (bodyOf i) d d₁ d₅ 0 6 (e₁ ∙ ap (λ (m : ℕ). sets d 0 (blockHead m 2)) el) (omega (arith, length-head n 2))
     (store c (b ++ (s ++ z)) d₁ d₂ d₅ 6 12 e₂ (omega (arith, length-counts (length (i .registers)) (length (i .xs)) (length (i .lens))))
     (store b (s ++ z) d₂ d₃ d₅ 12 t e₃ (omega (arith, et, length-box (boxOf (i .xs) (i .ys))))
     (store s z d₃ d₄ d₅ t k e₄ (omega (arith, et, ek)) e₅)))

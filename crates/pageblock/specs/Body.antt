@@ -18,6 +18,7 @@ pub record Handed : Type 0 where
   pub xs : List ℕ
   pub ys : List ℕ
 
+-- the same, by the six of them
 abbrev pub handedWith : List ℕ → List ℕ → List ℕ → List ℕ → List ℕ → List ℕ → Handed
 handedWith registers types counts lens xs ys = record { registers = registers; types = types; counts = counts; lens = lens; xs = xs; ys = ys }
 

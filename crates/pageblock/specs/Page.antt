@@ -38,9 +38,9 @@ pageRules i =
     on (partsRule (i .types) (i .counts) (i .lens) (length (i .xs))) (λ _.
     outlineRules (outlines i) (i .xs) (i .ys)))
 
--- the bytes of a page's block
-unfoldable pub pageOf : Handed → Out (List ℕ)
-pageOf i = on (pageRules i) (λ _. ok (pageBytes i))
+-- the bytes of a page's block, where the rules let it pass
+unfoldable pub pageWritten : Handed → Out (List ℕ)
+pageWritten i = on (pageRules i) (λ _. ok (pageBytes i))
 
 -- 2: bytes for a lent room of so many
 unfoldable pub roomFor : ℕ → List ℕ → Out (List ℕ)
@@ -48,4 +48,4 @@ roomFor room bytes = need (leb (length bytes) room) (because table.room) (ok byt
 
 -- a page's block for a lent room
 unfoldable pub pageBlockOf : ℕ → Handed → Out (List ℕ)
-pageBlockOf room i = on (pageOf i) (roomFor room)
+pageBlockOf room i = on (pageWritten i) (roomFor room)

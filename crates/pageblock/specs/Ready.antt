@@ -1,10 +1,10 @@
--- What the putting of a page counts on, since the rules before it passed and the columns were measured; and what it means for lists to be those
--- of a program's slices. Assumes nothing.
-use Prim.Native.Nat.{ℕ, _^_, _≤_, _<_}
+-- What the putting of a page counts on, since the rules before it passed and the columns were measured: for inner walks; no service speaks of it.
+-- Assumes nothing.
+use Prim.Native.Nat.{ℕ, _≤_}
 use mathlib.Core.Path.{_≡_}
 use mathlib.Core.Bool.{true}
 use mathlib.Core.List.{List}
-use lib.ListN.{length, getD}
+use lib.ListN.{length}
 use Rattle.width.specs.Width.{widthOf}
 use Rattle.column.specs.declared.write.Fitted.{Fitted}
 use Rattle.column.specs.Column.{encode}
@@ -30,12 +30,3 @@ pub record Sound (xs ys : List ℕ) : Type 0 where
 pub record Sized (vs : List ℕ) (f : Fitted) : Type 0 where
   pub width : f .width ≡ widthOf 64 vs
   pub size : f .bytes ≡ length (encode 64 vs)
-
--- each number fits the type of its slice: registers u32, types u8, part counts and part lengths u16, patterns u64
-pub record Typed (i : Handed) : Type 0 where
-  pub registers : (j : ℕ) → getD (i .registers) j 0 < 2 ^ 32
-  pub types : (j : ℕ) → getD (i .types) j 0 < 2 ^ 8
-  pub counts : (j : ℕ) → getD (i .counts) j 0 < 2 ^ 16
-  pub lens : (j : ℕ) → getD (i .lens) j 0 < 2 ^ 16
-  pub xs : (j : ℕ) → getD (i .xs) j 0 < 2 ^ 64
-  pub ys : (j : ℕ) → getD (i .ys) j 0 < 2 ^ 64

@@ -3,36 +3,28 @@
 use mathlib.Core.Path.{_≡_, refl, sym, ap, ap₂, _∙_, subst}
 use mathlib.Core.List.{List, [], _∷_}
 use mathlib.Core.Bool.{Bool, true, false}
-use Prim.Native.Nat.{ℕ, suc, _+_, _-_, _*_, _/_, _%_, _^_, _≤_, _<_}
+use Prim.Native.Nat.{ℕ, _+_, _-_, _/_, _%_, _^_, _≤_, _<_}
 use native.Mathlib.Nat.{le-of-eq, add-assoc, div-one, mod-lt, mod-eq-of-lt}
-use lib.Dec.{leb, eqb}
+use lib.Dec.{eqb}
 use lib.ListN.{length, getD, drop-of-length-le}
 use lib.Pow.{pow-pos}
 use borrow.Author.Tests.{leb-true, eqb-true, eqb-false}
-use Rattle.answer.specs.Outcome.{Out, ok}
+use Rattle.answer.specs.Outcome.{ok}
 use Rattle.answer.proofs.Outcomes.{need-ok}
-use Rattle.le.specs.Number.{number, bytesOf, field}
-use Rattle.le.proofs.Numbers.{Bytes, byte-at}
+use Rattle.le.specs.Number.{number, bytesOf, field, Bytes}
+use Rattle.le.proofs.Numbers.{byte-at}
 use Rattle.le.proofs.Bytes.{bytes-number}
 use Rattle.entry.specs.Fields.{Fld, fld, pack, bits}
-use Rattle.entry.specs.Entry.{after, values}
-use Rattle.entry.proofs.Entries.{Below, below-none, below-more}
+use Rattle.entry.specs.Entry.{Below, below-none, below-more}
 use Rattle.entry.proofs.Reading.{Said, said-all, in-front}
-use Rattle.column.specs.Column.{whole, asBytes, opened, IsColumn, column-none, column-some}
+use Rattle.column.specs.Column.{whole, asBytes, columnWith, IsColumn, column-none, column-some}
 use Rattle.column.specs.Read.{saidBy, endOf, decodeOf, readOf}
 use Rattle.column.proofs.Decoding.{Opened, some-ok, none-ok, scratch-ok}
+use Rattle.promises.specs.Holding.{ColumnHolds}
 use Rattle.promises.proofs.RoundTrip.{reads-column}
 
--- the list vs is n values of the column s, and n values and room for them may be asked for
-pub record Holds (P : ℕ) (s : List ℕ) (n room : ℕ) (vs : List ℕ) : Type 0 where
-  pub column : IsColumn P s vs
-  pub patterns : Below P vs
-  pub count : length vs ≡ n
-  pub few : n ≤ 2048
-  pub enough : n ≤ room
-
 -- what holds a list is read as that list
-pub held-read : (P : ℕ) (s : List ℕ) (n room : ℕ) (vs : List ℕ) → P < 256 → Holds P s n room vs → readOf P s n room ≡ ok vs
+pub held-read : (P : ℕ) (s : List ℕ) (n room : ℕ) (vs : List ℕ) → P < 256 → ColumnHolds P s n room vs → readOf P s n room ≡ ok vs
 held-read P s n room vs hP h =
     let c : length vs ≡ n = h .count in
     subst (λ (k : ℕ). readOf P s k room ≡ ok vs) c (reads-column P room hP (h .patterns) (h .column) (rw c (h .few)) (rw c (h .enough)))
@@ -56,14 +48,14 @@ module _ (P : ℕ) (s : List ℕ) (n : ℕ) (vs : List ℕ) (hp : 0 < P) (hb : B
   fs : List Fld
   fs = read-said .fields
 
-  end-bits : endOf P s n ≡ bits (opened P (getD s 0 0) (field (number s) 8 P) fs)
+  end-bits : endOf P s n ≡ bits (columnWith P (getD s 0 0) (field (number s) 8 P) fs)
   unfolding endOf bits fs
   end-bits = read-said .ends ∙ add-assoc 8 P (bits (read-said .fields))
 
   width-field : field (number s) 0 8 ≡ getD s 0 0
   width-field = byte-at s 0 hb
 
-  same-number : number s ≡ pack (opened P (getD s 0 0) (field (number s) 8 P) fs)
+  same-number : number s ≡ pack (columnWith P (getD s 0 0) (field (number s) 8 P) fs)
   unfolding bits pack fs
   same-number =
       let l : number s < 2 ^ (8 + (P + bits (read-said .fields))) = subst (λ (k : ℕ). number s < 2 ^ k) end-bits (o .zero-fill) in
@@ -71,7 +63,7 @@ module _ (P : ℕ) (s : List ℕ) (n : ℕ) (vs : List ℕ) (hp : 0 < P) (hb : B
       ∙ in-front (number s) 0 8 (getD s 0 0) (fld (field (number s) 8 P) P ∷ read-said .fields) width-field
       (in-front (number s) 8 P (field (number s) 8 P) (read-said .fields) refl (read-said .there))
 
-  same-bytes : asBytes (opened P (getD s 0 0) (field (number s) 8 P) fs) ≡ s
+  same-bytes : asBytes (columnWith P (getD s 0 0) (field (number s) 8 P) fs) ≡ s
   unfolding asBytes
   same-bytes = ap₂ (λ (k x : ℕ). bytesOf k x) (ap whole (sym end-bits) ∙ o .whole-way) (sym same-number) ∙ bytes-number s hb
 
@@ -83,20 +75,20 @@ module _ (P : ℕ) (s : List ℕ) (n : ℕ) (vs : List ℕ) (hp : 0 < P) (hb : B
   unfolding saidBy
   opened-below = subst (Below P) (o .list) (below-more (mod-lt (number s / 2 ^ 8) (pow-pos P)) (read-said .below))
 
-pub read-held : (P : ℕ) (s : List ℕ) (n room : ℕ) (vs : List ℕ) → 0 < P → Bytes s → readOf P s n room ≡ ok vs → Holds P s n room vs
+pub read-held : (P : ℕ) (s : List ℕ) (n room : ℕ) (vs : List ℕ) → 0 < P → Bytes s → readOf P s n room ≡ ok vs → ColumnHolds P s n room vs
 unfolding readOf
 read-held P s n room vs hp hb h =
     let p = need-ok _ _ _ _ h in
     let q = need-ok _ _ _ _ (p .1) in
     held (leb-true _ _ (p .0)) (leb-true _ _ (q .0)) (q .1)
   where
-    held : n ≤ 2048 → n ≤ room → decodeOf P s n ≡ ok vs → Holds P s n room vs
+    held : n ≤ 2048 → n ≤ room → decodeOf P s n ≡ ok vs → ColumnHolds P s n room vs
     held h3 h2 d = go (eqb n 0) refl
       where
         count : length vs ≡ n
         count = scratch-ok P s n [] vs d .0
 
-        go : (t : Bool) → eqb n 0 ≡ t → Holds P s n room vs
+        go : (t : Bool) → eqb n 0 ≡ t → ColumnHolds P s n room vs
         go true e =
             let r = none-ok P s n vs (eqb-true _ _ e) d in
             let sq : s ≡ [] = drop-of-length-le s {i = 0} (le-of-eq (r .0)) in

@@ -29,12 +29,11 @@ use Rattle.fetch.proofs.Nth.{nth-some, nth-drop}
 use Rattle.fetch.proofs.Opens.{place-seat, seat-refused, seat-contents}
 use Rattle.fetch.proofs.Fetching.{fetch-nth}
 use Rattle.fetch.proofs.Accepted.{seat-within, seat-inside}
-use Rattle.writer.specs.Run.{Call, Held, takenOf, TypedCalls}
+use Rattle.writer.specs.Run.{Call, Held, TypedCalls, fileIn}
 use Rattle.promises.specs.Numbers as numbers
-use Rattle.promises.specs.Numbers.{oneOf}
-use Rattle.promises.specs.Writing.{handedShapes}
+use Rattle.promises.specs.Writing.{ended, taken, handedShapes}
 use Rattle.promises.proofs.Numbers.{plain-gives, contents-give}
-use Rattle.promises.proofs.Writings.{opened, ended, closedFile, closed-shapes}
+use Rattle.promises.proofs.Writings.{closed-shapes}
 
 -- with room for it, fetch gives the shape at a place
 with-room : (s : List ℕ) (n : ℕ) (r : Rooms) (x : Shape) → roomy r (x .outline) ≡ true → shapeIn s n ≡ ok x → fetchOf s n r ≡ ok x
@@ -59,7 +58,7 @@ listed-seat a s room l p e h =
 -- so its shape is never refused by 17
 listed-shape : (a : Ask) (s : List ℕ) (room : ℕ) (l : List ℕ) (p : ℕ) (w : Refusal) → searchOf a s room ≡ ok l → listed p l ≡ true
     → shapeIn s p ≡ refused w → w .number ≡ table.place → ⊥
-unfolding oneOf
+unfolding listed
 listed-shape a s room l p w e h r q =
     let k = listed-seat a s room l p e h in
     let t : Seat = k .0 in
@@ -68,7 +67,7 @@ listed-shape a s room l p w e h r q =
     go : (t : Seat) → t .index < t .held .head .g → (o : Out (List Shape)) → contentsOf (t .held .head) (t .held .body) ≡ o → shapeOf t ≡ refused w → ⊥
     go t i (refused v) c f =
         let n : v .number ≡ 17 = ap (λ (x : Refusal). x .number) (refused-inj (sym (seat-refused t v c) ∙ f)) ∙ q in
-        no-both refl (subst (λ (x : ℕ). oneOf x numbers.contents ≡ true) n (plain-gives numbers.contents _ (contents-give (t .held .head) (t .held .body)) .such v c))
+        no-both refl (subst (λ (x : ℕ). listed x numbers.contents ≡ true) n (plain-gives numbers.contents _ (contents-give (t .held .head) (t .held .body)) .such v c))
     go t i (ok here) c f =
         let x = nth-some (t .index) here (omega (arith, i, contents-long (t .held .head) (t .held .body) here c)) in
         never (sym f ∙ seat-contents t here c ∙ x .1)
@@ -89,6 +88,6 @@ listed-never-17 a s room l p k w e h r q = go (shapeIn s p) refl r
 
 -- every shape as it was handed in
 pub written-fetched : (h : Held) (cs : List Call) (l : 8 ≤ length (h .buffer)) (t : TypedCalls cs) (n : ℕ) (r : Rooms) (x : Shape) (rest : List Shape)
-    → ended h cs l t .state .closed ≡ true → drop n (handedShapes (takenOf (opened h cs l t) cs)) ≡ x ∷ rest
-    → roomy r (x .outline) ≡ true → fetchOf (closedFile h cs l t) n r ≡ ok x
-written-fetched h cs l t n r x rest c d = fetch-is (closedFile h cs l t) n r (handedShapes (takenOf (opened h cs l t) cs)) x rest (closed-shapes h cs l t c) d
+    → ended h cs .state .closed ≡ true → drop n (handedShapes (taken h cs)) ≡ x ∷ rest
+    → roomy r (x .outline) ≡ true → fetchOf (fileIn (ended h cs)) n r ≡ ok x
+written-fetched h cs l t n r x rest c d = fetch-is (fileIn (ended h cs)) n r (handedShapes (taken h cs)) x rest (closed-shapes h cs l t c) d

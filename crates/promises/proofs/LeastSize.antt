@@ -4,7 +4,7 @@
 use mathlib.Core.Path.{_≡_, refl, sym, ap, _∙_, subst}
 use mathlib.Core.List.{List, [], _∷_}
 use mathlib.Core.Bool.{Bool, true, false}
-use Prim.Native.Nat.{ℕ, zero, suc, _+_, _-_, _*_, _/_, _≤_, _<_}
+use Prim.Native.Nat.{ℕ, _+_, _*_, _≤_, _<_}
 use native.Mathlib.Omega.{arith}
 use lib.Dec.{leb}
 use lib.ListN.{length}
@@ -12,16 +12,16 @@ use borrow.Author.Tests.{leb-true, leb-false}
 use Rattle.answer.specs.Table as Table
 use Rattle.answer.specs.declared.Refusal.{Refusal}
 use Rattle.answer.specs.Refusal.{because}
-use Rattle.answer.specs.Outcome.{Out, refused, ok}
+use Rattle.answer.specs.Outcome.{refused}
 use Rattle.answer.proofs.Outcomes.{never, refused-inj}
 use Rattle.entry.specs.Fields.{bits}
-use Rattle.width.specs.Width.{zsOf, S, widthOf}
-use Rattle.width.proofs.Least.{Least}
+use Rattle.width.specs.Width.{zsOf, S, widthOf, Least}
 use Rattle.width.proofs.Sizes.{width-least}
-use Rattle.column.specs.Column.{whole, columnAt, encodeAt, encode}
+use Rattle.column.specs.Column.{columnAt, encodeAt, encode}
 use Rattle.column.specs.Write.{writeOf}
 use Rattle.column.proofs.Trips as trips
 use Rattle.column.proofs.Writing.{column-bits, encode-length, encode-none, encode-is, write-many, write-room, write-bytes}
+use Rattle.promises.specs.Fitting.{NoneFits}
 
 -- the size in bits at width n is 8 + P + S(n), 72 + S(n) at 64
 pub size-in-bits : (P n : ℕ) (vs : List ℕ) → 0 < length vs → bits (columnAt P n vs) ≡ 8 + P + S P (zsOf P vs) n
@@ -55,10 +55,6 @@ bytes-least P n (v ∷ vs) h =
     )
 
 -- ---- 2 comes exactly when no permitted width's bytes fit the room
-
--- no width's bytes fit a room of this size
-abbrev pub NoneFits : ℕ → List ℕ → ℕ → Type 0
-NoneFits P vs size = (n : ℕ) → n ≤ P → size < length (encodeAt P n vs)
 
 pub room-refused : (P : ℕ) (vs : List ℕ) (size : ℕ) → length vs ≤ 2048 → NoneFits P vs size → writeOf P vs size ≡ refused (because Table.room)
 room-refused P vs size h none =

@@ -10,6 +10,7 @@ pub mod Numbers
 pub mod PassedBlocks
 pub mod OpenedPages
 pub mod Pages
+pub mod CallNumbers
 pub mod Fetched
 pub mod FirstDemand
 pub mod SecondDemand

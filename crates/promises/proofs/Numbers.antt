@@ -10,6 +10,7 @@ use borrow.Author.Tests.{eqb-true}
 use Rattle.answer.specs.declared.Refusal.{Refusal}
 use Rattle.answer.specs.Table as table
 use Rattle.answer.specs.Refusal.{because}
+use Rattle.answer.specs.Every.{allOf}
 use Rattle.answer.specs.Outcome.{Out, refused, ok, on, inPage}
 use Rattle.answer.proofs.Both.{no-both, both, both-l, both-r}
 use Rattle.le.specs.Block.{blockAt}
@@ -34,7 +35,7 @@ use Rattle.frame.specs.Frame as framed
 use Rattle.frame.specs.Frame.{Page, turned, walk, frameOf}
 use Rattle.page.specs.Contents.{verticesOf, outlineRules, contentsOf}
 use Rattle.pageblock.specs.Body.{Handed}
-use Rattle.pageblock.specs.Page.{countsRule, pageRules, pageOf, roomFor, pageBlockOf}
+use Rattle.pageblock.specs.Page.{countsRule, pageRules, pageWritten, roomFor, pageBlockOf}
 use Rattle.writer.specs.declared.Writer.{Writer}
 use Rattle.writer.specs.State.{putAt, openRule, openOf, pagesRule, pageStepOf, totalsRule, closeOf}
 use Rattle.file.specs.File.{pagesOf}
@@ -44,26 +45,26 @@ use Rattle.fetch.specs.Seek.{seekIn, seatOf}
 use Rattle.fetch.specs.Fetch.{shapeAt, shapeOf, shapeIn, Rooms, inRooms, fetchOf}
 use Rattle.fetch.specs.Rows.{rowsAt, rowsIn, rowsOf}
 use Rattle.promises.specs.Refusing.{Refuses}
+use Rattle.search.specs.Listed.{listed}
 use Rattle.promises.specs.Numbers as numbers
-use Rattle.promises.specs.Numbers.{oneOf, by, plain, Gives, Plain}
+use Rattle.promises.specs.Numbers.{by, plain, Gives, Plain}
 use Rattle.promises.specs.Pages.{NoPage}
-use Rattle.promises.proofs.Refusals.{ok-gives, refused-gives, need-gives, on-gives, in-page-gives, cond-gives, pick-gives, rule-gives, so-gives}
+use Rattle.promises.proofs.Refusals.{ok-gives, refused-gives, need-gives, on-gives, in-page-gives, cond-gives, rule-gives, so-gives}
 
 -- ---- among more numbers all the more
 
 -- each of the first is one of the others
-unfoldable pub every : List ℕ → List ℕ → Bool
-every [] ms = true
-every (n ∷ ns) ms = oneOf n ms && every ns ms
+abbrev pub every : List ℕ → List ℕ → Bool
+every ns ms = allOf (λ (n : ℕ). listed n ms) ns
 
-among : (ns ms : List ℕ) → every ns ms ≡ true → (n : ℕ) → oneOf n ns ≡ true → oneOf n ms ≡ true
-unfolding oneOf every
+among : (ns ms : List ℕ) → every ns ms ≡ true → (n : ℕ) → listed n ns ≡ true → listed n ms ≡ true
+unfolding listed allOf
 among [] ms h n e = absurd (no-both refl e)
 among (m ∷ ns) ms h n e =
-    go (eqb n m) refl e (both-l (oneOf m ms) (every ns ms) h) (λ k. among ns ms (both-r (oneOf m ms) (every ns ms) h) n k)
+    go (eqb n m) refl e (both-l (listed m ms) (every ns ms) h) (λ k. among ns ms (both-r (listed m ms) (every ns ms) h) n k)
   where
-    go : (t : Bool) → eqb n m ≡ t → (t || oneOf n ns) ≡ true → oneOf m ms ≡ true → (oneOf n ns ≡ true → oneOf n ms ≡ true) → oneOf n ms ≡ true
-    go true z k f g = subst (λ (x : ℕ). oneOf x ms ≡ true) (sym (eqb-true n m z)) f
+    go : (t : Bool) → eqb n m ≡ t → (t || listed n ns) ≡ true → listed m ms ≡ true → (listed n ns ≡ true → listed n ms ≡ true) → listed n ms ≡ true
+    go true z k f g = subst (λ (x : ℕ). listed x ms ≡ true) (sym (eqb-true n m z)) f
     go false z k f g = g k
 
 wider : {A : Type 0} (ns ms : List ℕ) → every ns ms ≡ true → (o : Out A) → Gives ns o → Gives ms o
@@ -72,18 +73,18 @@ wider ns ms h o g = so-gives (by ns) (by ms) o (λ w e k. among ns ms h (w .numb
 -- ---- a plain refusal: its number, and page 0
 
 plain-by : (ns : List ℕ) (w : Refusal) → plain ns w → by ns w
-plain-by ns w k = both-l (oneOf (w .number) ns) (eqb (w .page) 0) k
+plain-by ns w k = both-l (listed (w .number) ns) (eqb (w .page) 0) k
 
 pub plain-gives : {A : Type 0} (ns : List ℕ) (o : Out A) → Plain ns o → Gives ns o
 plain-gives ns o g = so-gives (plain ns) (by ns) o (λ w e k. plain-by ns w k) g
 
 pub plain-no-page : {A : Type 0} (ns : List ℕ) (o : Out A) → Plain ns o → NoPage o
-plain-no-page ns o g = so-gives (plain ns) _ o (λ w e k. eqb-true (w .page) 0 (both-r (oneOf (w .number) ns) (eqb (w .page) 0) k)) g
+plain-no-page ns o g = so-gives (plain ns) _ o (λ w e k. eqb-true (w .page) 0 (both-r (listed (w .number) ns) (eqb (w .page) 0) k)) g
 
-plainer : {A : Type 0} (ns ms : List ℕ) → every ns ms ≡ true → (o : Out A) → Plain ns o → Plain ms o
+pub plainer : {A : Type 0} (ns ms : List ℕ) → every ns ms ≡ true → (o : Out A) → Plain ns o → Plain ms o
 plainer ns ms h o g =
     so-gives (plain ns) (plain ms) o
-    (λ w e k. both (among ns ms h (w .number) (plain-by ns w k)) (both-r (oneOf (w .number) ns) (eqb (w .page) 0) k)) g
+    (λ w e k. both (among ns ms h (w .number) (plain-by ns w k)) (both-r (listed (w .number) ns) (eqb (w .page) 0) k)) g
 
 pub widened : {A : Type 0} (ns ms : List ℕ) → every ns ms ≡ true → (o : Out A) → Plain ns o → Gives ms o
 widened ns ms h o g = plain-gives ms o (plainer ns ms h o g)
@@ -95,7 +96,7 @@ page-gives ns k o g = in-page-gives (by ns) k o (so-gives (plain ns) _ o (λ w e
 -- ---- columns
 
 pub write-gives : (P : ℕ) (vs : List ℕ) (size : ℕ) → Plain numbers.columnWrite (writeOf P vs size)
-unfolding writeOf oneOf
+unfolding writeOf listed
 write-gives P vs size = need-gives _ _ _ _ refl (need-gives _ _ _ _ refl (ok-gives _ _))
 
 closed-gives : {A : Type 0} (Such : Refusal → Type 0) (s : List ℕ) (e : ℕ) (o : Out A) → Such (because 9) → Such (because 10) → Refuses Such o → Refuses Such (closed s e o)
@@ -104,74 +105,74 @@ closed-gives Such s e o h k g = need-gives _ _ _ _ h (need-gives _ _ _ _ k g)
 
 -- a column's bytes, whatever the room: 8, 9, 10
 some-gives : (P : ℕ) (s : List ℕ) (n : ℕ) → Plain numbers.columnBits (someOf P s n)
-unfolding someOf oneOf
+unfolding someOf listed
 some-gives P s n = need-gives _ _ _ _ refl (need-gives _ _ _ _ refl (closed-gives _ _ _ _ refl refl (ok-gives _ _)))
 
 decode-gives : (P : ℕ) (s : List ℕ) (n : ℕ) → Plain numbers.columnBits (decodeOf P s n)
-unfolding decodeOf oneOf
-decode-gives P s n = pick-gives _ (eqb n 0) (closed s 0 (ok [])) (someOf P s n) (closed-gives _ _ _ _ refl refl (ok-gives _ _)) (some-gives P s n)
+unfolding decodeOf listed
+decode-gives P s n = cond-gives _ (eqb n 0) (closed s 0 (ok [])) (someOf P s n) (closed-gives _ _ _ _ refl refl (ok-gives _ _)) (some-gives P s n)
 
 pub read-gives : (P : ℕ) (s : List ℕ) (n size : ℕ) → Plain numbers.columnRead (readOf P s n size)
-unfolding readOf oneOf every
+unfolding readOf listed allOf
 read-gives P s n size = need-gives _ _ _ _ refl (need-gives _ _ _ _ refl (plainer numbers.columnBits numbers.columnRead refl _ (decode-gives P s n)))
 
-next-gives : (P : ℕ) (s : List ℕ) (n : ℕ) → Plain numbers.columnStep (step.firstOf P s n)
-unfolding step.firstOf oneOf
-next-gives P s n = pick-gives _ (eqb n 0) (closed s 0 (ok step.end)) _ (closed-gives _ _ _ _ refl refl (ok-gives _ _)) (need-gives _ _ _ _ refl (need-gives _ _ _ _ refl (need-gives _ _ _ _ refl (ok-gives _ _))))
+next-gives : (P : ℕ) (s : List ℕ) (n : ℕ) → Plain numbers.columnStep (step.firstCall P s n)
+unfolding step.firstCall listed
+next-gives P s n = cond-gives _ (eqb n 0) (closed s 0 (ok step.end)) _ (closed-gives _ _ _ _ refl refl (ok-gives _ _)) (need-gives _ _ _ _ refl (need-gives _ _ _ _ refl (need-gives _ _ _ _ refl (ok-gives _ _))))
 
-later-gives : (P : ℕ) (s : List ℕ) (n : ℕ) (p : Position) → Plain numbers.columnStep (step.laterOf P s n p)
-unfolding step.laterOf oneOf
+later-gives : (P : ℕ) (s : List ℕ) (n : ℕ) (p : Position) → Plain numbers.columnStep (step.laterCall P s n p)
+unfolding step.laterCall listed
 later-gives P s n p =
     need-gives _ _ _ _ refl
     (need-gives _ _ _ _ refl
-    (pick-gives _ (leb n (p .given)) (closed s (p .at) (ok step.end)) _ (closed-gives _ _ _ _ refl refl (ok-gives _ _))
+    (cond-gives _ (leb n (p .given)) (closed s (p .at) (ok step.end)) _ (closed-gives _ _ _ _ refl refl (ok-gives _ _))
     (need-gives _ _ _ _ refl (need-gives _ _ _ _ refl (ok-gives _ _)))))
 
 pub step-gives : (P : ℕ) (s : List ℕ) (n : ℕ) (p : Position) → Plain numbers.columnStep (step.nextOf P s n p)
-unfolding step.nextOf oneOf
-step-gives P s n p = need-gives _ _ _ _ refl (pick-gives _ (eqb (p .given) 0) (step.firstOf P s n) (step.laterOf P s n p) (next-gives P s n) (later-gives P s n p))
+unfolding step.nextOf listed
+step-gives P s n p = need-gives _ _ _ _ refl (cond-gives _ (eqb (p .given) 0) (step.firstCall P s n) (step.laterCall P s n p) (next-gives P s n) (later-gives P s n p))
 
 -- ---- the query's block
 
 instead-gives : {A : Type 0} (o : Out A) → Plain (1 ∷ []) (instead (because table.query) o)
-unfolding instead oneOf
+unfolding instead listed
 instead-gives (refused w) = refused-gives _ _ refl
 instead-gives (ok a) = ok-gives _ _
 
 asked-gives : (s : List ℕ) → Plain (1 ∷ []) (asked s)
-unfolding asked spotAsked windowAsked oneOf
+unfolding asked spotAsked windowAsked listed
 asked-gives s =
     cond-gives _ (eqb (length s) 6) _ _ (ok-gives _ _)
     (cond-gives _ (eqb (length s) 22) _ _ (need-gives _ _ _ _ refl (ok-gives _ _))
     (cond-gives _ (eqb (length s) 38) _ _ (need-gives _ _ _ _ refl (ok-gives _ _)) (refused-gives _ _ refl)))
 
 pub len-gives : (s : List ℕ) → Plain (1 ∷ []) (blockLen s)
-unfolding blockLen lenOf oneOf
+unfolding blockLen lenOf listed
 len-gives s = on-gives _ _ _ (instead-gives (blockAt s 0)) (λ b. need-gives _ _ _ _ refl (ok-gives _ _))
 
 pub ask-gives : (s : List ℕ) → Plain (1 ∷ []) (askOf s)
-unfolding askOf oneOf
+unfolding askOf listed
 ask-gives s = on-gives _ _ _ (len-gives s) (λ n. need-gives _ _ _ _ refl (asked-gives s))
 
 -- ---- the frame
 
 block-gives : (s : List ℕ) (at : ℕ) → Plain numbers.frame (blockAt s at)
-unfolding blockAt oneOf
+unfolding blockAt listed
 block-gives s at = need-gives _ _ _ _ refl (ok-gives _ _)
 
 pub first-gives : (s : List ℕ) → Plain numbers.frame (firstOf s)
-unfolding firstOf firstStep oneOf
+unfolding firstOf firstStep listed
 first-gives s =
     on-gives _ _ _ (block-gives s 0) (λ b. need-gives _ _ _ _ refl (need-gives _ _ _ _ refl (need-gives _ _ _ _ refl (ok-gives _ _))))
 
 head-gives : (edition : ℕ) (b : List ℕ) → Plain numbers.frame (headOf edition b)
-unfolding headOf sizedHead oneOf
+unfolding headOf sizedHead listed
 head-gives edition b =
     need-gives _ _ _ _ refl
     (need-gives _ _ _ _ refl (need-gives _ _ _ _ refl (need-gives _ _ _ _ refl (need-gives _ _ _ _ refl (ok-gives _ _)))))
 
 turn-gives : (s : List ℕ) (c : Cursor) → Gives numbers.frame (stepOf s c)
-unfolding stepOf kindStep pageStep endStep oneOf
+unfolding stepOf kindStep pageStep endStep listed
 turn-gives s c =
     page-gives numbers.frame _ _
     (on-gives _ _ _ (block-gives s (c .at)) (λ b.
@@ -180,7 +181,7 @@ turn-gives s c =
     (need-gives _ _ _ _ refl (need-gives _ _ _ _ refl (need-gives _ _ _ _ refl (ok-gives _ _)))) (refused-gives _ _ refl))))
 
 walk-gives : (n : ℕ) (s : List ℕ) (c : Cursor) → Gives numbers.frame (walk n s c)
-unfolding walk oneOf
+unfolding walk listed
 walk-gives zero s c = refused-gives _ _ refl
 walk-gives (suc n) s c = on-gives _ _ _ (turn-gives s c) (λ t. go (λ p. walk-gives n s (p .next)) t)
   where
@@ -206,7 +207,7 @@ unfolding verticesOf
 vertices-give h b = on-gives _ _ _ (decode-gives 64 _ (h .v)) (λ xs. on-gives _ _ _ (decode-gives 64 _ (h .v)) (λ ys. ok-gives _ _))
 
 pub contents-give : (h : Head) (b : List ℕ) → Plain numbers.contents (contentsOf h b)
-unfolding contentsOf partsRule boxRule oneOf every
+unfolding contentsOf partsRule boxRule listed allOf
 contents-give h b =
     on-gives _ _ _ (rule-gives _ _ _ refl) (λ _.
     on-gives _ _ _ (plainer numbers.columnBits numbers.contents refl _ (vertices-give h b)) (λ t.
@@ -220,7 +221,7 @@ pages-give (p ∷ ps) k =
     on-gives _ _ _ (page-gives numbers.contents k _ (contents-give (p .head) (p .body))) (λ here. on-gives _ _ _ (pages-give ps (suc k)) (λ rest. ok-gives _ _))
 
 pub check-gives : (s : List ℕ) → Gives numbers.check (checkOf s)
-unfolding checkOf oneOf every
+unfolding checkOf listed allOf
 check-gives s =
     on-gives _ _ _ (wider numbers.frame numbers.check refl _ (frame-gives s)) (λ f.
     on-gives _ _ _ (wider numbers.contents numbers.check refl _ (pages-give (f .pages) 0)) (λ _. ok-gives _ _))
@@ -237,7 +238,7 @@ met-gives a (p ∷ ps) k n =
     on-gives _ _ _ (met-gives a ps (suc k) (n + p .head .g)) (λ rest. ok-gives _ _))
 
 hits-give : (a : Ask) (s : List ℕ) → Gives numbers.count (hitsOf a s)
-unfolding hitsOf metIn oneOf every
+unfolding hitsOf metIn listed allOf
 hits-give a s =
     on-gives _ _ _ (rule-gives _ _ _ refl) (λ _.
     on-gives _ _ _ (wider numbers.frame numbers.count refl _ (frame-gives s)) (λ f.
@@ -248,34 +249,38 @@ unfolding countOf
 count-gives a s = on-gives _ _ _ (hits-give a s) (λ l. ok-gives _ _)
 
 pub search-gives : (a : Ask) (s : List ℕ) (room : ℕ) → Gives numbers.search (searchOf a s room)
-unfolding searchOf oneOf every
+unfolding searchOf listed allOf
 search-gives a s room =
     on-gives _ _ _ (wider numbers.count numbers.search refl _ (hits-give a s)) (λ l. need-gives _ _ _ _ refl (ok-gives _ _))
 
 -- ---- fetch
 
 pub seek-gives : (ps : List Page) (k n : ℕ) → Plain numbers.noShape (seekIn k n ps)
-unfolding seekIn oneOf
+unfolding seekIn listed
 seek-gives [] k n = refused-gives _ _ refl
 seek-gives (p ∷ ps) k n = cond-gives _ (ltb n (p .head .g)) _ _ (ok-gives _ _) (seek-gives ps (suc k) (n - p .head .g))
 
 seat-gives : (s : List ℕ) (n : ℕ) → Gives numbers.place (seatOf s n)
-unfolding seatOf oneOf every
+unfolding seatOf listed allOf
 seat-gives s n = on-gives _ _ _ (wider numbers.frame numbers.place refl _ (frame-gives s)) (λ f. widened numbers.noShape numbers.place refl _ (seek-gives (f .pages) 0 n))
 
 pub nth-gives : (n : ℕ) (l : List Shape) → Plain numbers.noShape (shapeAt n l)
-unfolding shapeAt oneOf
+unfolding shapeAt listed
 nth-gives n [] = refused-gives _ _ refl
 nth-gives zero (x ∷ l) = ok-gives _ _
 nth-gives (suc n) (x ∷ l) = nth-gives n l
 
+-- whatever the rooms
+pub shape-gives : (s : List ℕ) (n : ℕ) → Gives numbers.fetch (shapeIn s n)
+unfolding shapeIn shapeOf listed allOf
+shape-gives s n =
+    on-gives _ _ _ (wider numbers.place numbers.fetch refl _ (seat-gives s n)) (λ t.
+    on-gives _ _ _ (wider numbers.contents numbers.fetch refl _ (page-gives numbers.contents (t .page) _ (contents-give (t .held .head) (t .held .body)))) (λ here.
+    widened numbers.noShape numbers.fetch refl _ (nth-gives (t .index) here)))
+
 pub fetch-gives : (s : List ℕ) (n : ℕ) (r : Rooms) → Gives numbers.fetch (fetchOf s n r)
-unfolding fetchOf shapeIn shapeOf inRooms oneOf every
-fetch-gives s n r =
-    on-gives _ _ _
-    (on-gives _ _ _ (wider numbers.place numbers.fetch refl _ (seat-gives s n)) (λ t.
-    on-gives _ _ _ (wider numbers.contents numbers.fetch refl _ (page-gives numbers.contents (t .page) _ (contents-give (t .held .head) (t .held .body)))) (λ here. widened numbers.noShape numbers.fetch refl _ (nth-gives (t .index) here))))
-    (λ sh. need-gives _ _ _ _ refl (ok-gives _ _))
+unfolding fetchOf inRooms listed
+fetch-gives s n r = on-gives _ _ _ (shape-gives s n) (λ sh. need-gives _ _ _ _ refl (ok-gives _ _))
 
 pub each-row-gives : (ps : List Page) (ns : List ℕ) → Plain numbers.noShape (rowsAt ps ns)
 unfolding rowsAt
@@ -283,7 +288,7 @@ each-row-gives ps [] = ok-gives _ _
 each-row-gives ps (n ∷ ns) = on-gives _ _ _ (seek-gives ps 0 n) (λ t. on-gives _ _ _ (each-row-gives ps ns) (λ rs. ok-gives _ _))
 
 pub rows-give : (s places : List ℕ) (registers types : ℕ) → Gives numbers.rows (rowsOf s places registers types)
-unfolding rowsOf rowsIn oneOf every
+unfolding rowsOf rowsIn listed allOf
 rows-give s places registers types =
     on-gives _ _ _
     (on-gives _ _ _ (wider numbers.frame numbers.rows refl _ (frame-gives s)) (λ f. widened numbers.noShape numbers.rows refl _ (each-row-gives (f .pages) places)))
@@ -292,31 +297,31 @@ rows-give s places registers types =
 -- ---- the writer
 
 pub open-gives : (room : ℕ) → Plain numbers.writerOpen (openOf room)
-unfolding openOf putAt oneOf
+unfolding openOf putAt listed
 open-gives room = need-gives _ _ _ _ refl (ok-gives _ _)
 
 rules-give : (i : Handed) → Plain numbers.pageBlock (pageRules i)
-unfolding pageRules countsRule partsRule oneOf
+unfolding pageRules countsRule partsRule listed
 rules-give i =
     on-gives _ _ _ (rule-gives _ _ _ refl) (λ _.
     on-gives _ _ _ (rule-gives _ _ _ refl) (λ _. outlines-give _ _ (i .xs) (i .ys) refl refl refl refl))
 
-bytes-give : (i : Handed) → Plain numbers.pageBlock (pageOf i)
-unfolding pageOf
+bytes-give : (i : Handed) → Plain numbers.pageBlock (pageWritten i)
+unfolding pageWritten
 bytes-give i = on-gives _ _ _ (rules-give i) (λ _. ok-gives _ _)
 
 pub page-block-gives : (room : ℕ) (i : Handed) → Plain numbers.pageBlock (pageBlockOf room i)
-unfolding pageBlockOf roomFor oneOf
+unfolding pageBlockOf roomFor listed
 page-block-gives room i = on-gives _ _ _ (bytes-give i) (λ bytes. need-gives _ _ _ _ refl (ok-gives _ _))
 
 pub page-step-gives : (st : Writer) (room : ℕ) (i : Handed) → Plain numbers.writerPage (pageStepOf st room i)
-unfolding pageStepOf openRule pagesRule putAt oneOf every
+unfolding pageStepOf openRule pagesRule putAt listed allOf
 page-step-gives st room i =
     on-gives _ _ _ (rule-gives _ _ _ refl) (λ _.
     on-gives _ _ _ (rule-gives _ _ _ refl) (λ _.
     on-gives _ _ _ (plainer numbers.pageBlock numbers.writerPage refl _ (bytes-give i)) (λ bytes. need-gives _ _ _ _ refl (ok-gives _ _))))
 
 pub close-gives : (st : Writer) (room : ℕ) → Plain numbers.writerClose (closeOf st room)
-unfolding closeOf openRule totalsRule putAt oneOf
+unfolding closeOf openRule totalsRule putAt listed
 close-gives st room =
     on-gives _ _ _ (rule-gives _ _ _ refl) (λ _. on-gives _ _ _ (rule-gives _ _ _ refl) (λ _. need-gives _ _ _ _ refl (ok-gives _ _)))

@@ -6,11 +6,11 @@ use mathlib.Core.List.{List, [], _∷_, _++_}
 use native.Mathlib.Omega.{arith}
 use lib.ListN.{length, length-drop, take, drop}
 use lib.Seq.{length-take-le}
-use Rattle.types.specs.Types.{rowOf}
+use Rattle.types.specs.Types.{typeRow}
 use Rattle.types.specs.Parts.{total, fits, partsAgree}
 use Rattle.types.proofs.Sums.{total-split}
 use Rattle.types.proofs.Passed.{hold-agree, hold-total, parts-cons}
-use Rattle.shape.specs.Outline.{Shape, outlinesOf, shapesOf}
+use Rattle.shape.specs.Outline.{Shape, outlinesOf, registered}
 use Rattle.frame.specs.Frame.{Page}
 use Rattle.page.specs.Contents.{registersOf, typesOf, countsOf, lensOf}
 use Rattle.promises.specs.SoundFile.{SoundPage, SoundPages}
@@ -19,8 +19,8 @@ use Rattle.promises.specs.Obeying.{Obeys, AllObey, none, more}
 
 -- shapes cut from lists that rule 11 let pass
 outlines-obey : (rs types counts lens xs ys : List ℕ) → partsAgree types counts lens ≡ true → length xs ≡ total lens → length ys ≡ total lens
-    → AllObey (shapesOf rs (outlinesOf types counts lens xs ys))
-unfolding outlinesOf shapesOf
+    → AllObey (registered rs (outlinesOf types counts lens xs ys))
+unfolding outlinesOf registered
 outlines-obey [] types counts lens xs ys p x y = none
 outlines-obey (r ∷ rs) [] counts lens xs ys p x y = none
 outlines-obey (r ∷ rs) (t ∷ ts) [] lens xs ys p x y = none
@@ -31,7 +31,7 @@ outlines-obey (r ∷ rs) (t ∷ ts) (c ∷ cs) lens xs ys p x y =
     let long : length (take c lens) ≡ c = length-take-le c lens (f .first .there) in
     let xl : length (take k xs) ≡ k = length-take-le k xs (omega (arith, x, e)) in
     let yl : length (take k ys) ≡ k = length-take-le k ys (omega (arith, y, e)) in
-    let row = rowOf t in
+    let row = typeRow t in
     let parts : fits (row .«least_parts») (row .«most_parts») (length (take c lens)) ≡ true = rw long (f .first .parts) in
     more
     (record { known = f .first .known; parts = parts; lengths = f .first .lengths; x-count = xl; y-count = yl })

@@ -6,6 +6,7 @@ use mathlib.Core.Bool.{true}
 use mathlib.Core.List.{List, [], _∷_}
 use Rattle.answer.specs.Refusal.{because}
 use Rattle.answer.specs.Outcome.{Out, ok}
+use Rattle.answer.specs.Every.{allOf}
 use Rattle.answer.proofs.Outcomes.{on-ok}
 use Rattle.column.specs.Write.{writeOf}
 use Rattle.column.specs.Read.{readOf}
@@ -24,8 +25,9 @@ use Rattle.fetch.specs.Seek.{Seat, seatOf}
 use Rattle.fetch.specs.Fetch.{shapeOf, shapeIn, Rooms, inRooms, fetchOf}
 use Rattle.fetch.specs.Rows.{rowsIn, rowsOf}
 use Rattle.promises.specs.Refusing.{Refuses}
+use Rattle.search.specs.Listed.{listed}
 use Rattle.promises.specs.Numbers as numbers
-use Rattle.promises.specs.Numbers.{oneOf, by, Gives, Plain}
+use Rattle.promises.specs.Numbers.{by, Gives, Plain}
 use Rattle.promises.specs.Pages.{NoPage, InContents, everyPage, metPages, PlacePage, noPages, HasPage, contents-refusal, other-refusal}
 use Rattle.promises.proofs.Refusals.{ok-gives, need-gives, after-gives, on-gives, rule-gives, so-gives}
 use Rattle.promises.proofs.Numbers as gives
@@ -100,25 +102,25 @@ hits-page a s others h =
     (met-refused a (f .pages) (f .pages) 0 0 refl (before-none (metPages a (f .pages)) (f .pages)))))
 
 pub count-page : (a : Ask) (s : List ℕ) → HasPage s (metPages a) (1 ∷ []) (countOf a s)
-unfolding countOf oneOf
+unfolding countOf listed
 count-page a s = on-gives _ _ _ (hits-page a s (1 ∷ []) refl) (λ l. ok-gives _ _)
 
 pub search-page : (a : Ask) (s : List ℕ) (room : ℕ) → HasPage s (metPages a) (1 ∷ 2 ∷ []) (searchOf a s room)
-unfolding searchOf oneOf
+unfolding searchOf listed
 search-page a s room = on-gives _ _ _ (hits-page a s (1 ∷ 2 ∷ []) refl) (λ l. need-gives _ _ _ _ (other-refusal refl refl) (ok-gives _ _))
 
 -- fetch opens the page of its place; its others are 17 and 2
 module _ (s : List ℕ) (n : ℕ) where
   -- the seat: frame, 17
   seat-page : HasPage s (PlacePage n) (17 ∷ 2 ∷ []) (seatOf s n)
-  unfolding seatOf oneOf every
+  unfolding seatOf listed allOf
   seat-page =
       on-gives _ _ _ (frame-paged s (PlacePage n) (17 ∷ 2 ∷ [])) (λ f.
       others-paged s (PlacePage n) (17 ∷ 2 ∷ []) numbers.noShape _ refl (gives.seek-gives (f .pages) 0 n))
 
   -- the contents of its page, and 17 once more
   shape-page : (t : Seat) → seatOf s n ≡ ok t → HasPage s (PlacePage n) (17 ∷ 2 ∷ []) (shapeOf t)
-  unfolding seatOf shapeOf oneOf every
+  unfolding seatOf shapeOf listed allOf
   shape-page t e =
       let a = on-ok (frameOf s) _ t e in
       let ps = a .0 .pages in
@@ -130,13 +132,13 @@ module _ (s : List ℕ) (n : ℕ) where
       (λ here. others-paged s (PlacePage n) (17 ∷ 2 ∷ []) numbers.noShape _ refl (gives.nth-gives (t .index) here))
 
 pub fetch-page : (s : List ℕ) (n : ℕ) (r : Rooms) → HasPage s (PlacePage n) (17 ∷ 2 ∷ []) (fetchOf s n r)
-unfolding fetchOf shapeIn inRooms oneOf
+unfolding fetchOf shapeIn inRooms listed
 fetch-page s n r =
     on-gives _ _ _ (after-gives _ _ _ (seat-page s n) (shape-page s n)) (λ sh. need-gives _ _ _ _ (other-refusal refl refl) (ok-gives _ _))
 
 -- the rows open none; their others are 17 and 2
 pub rows-page : (s places : List ℕ) (registers types : ℕ) → HasPage s noPages (17 ∷ 2 ∷ []) (rowsOf s places registers types)
-unfolding rowsOf rowsIn oneOf every
+unfolding rowsOf rowsIn listed allOf
 rows-page s places registers types =
     on-gives _ _ _
     (on-gives _ _ _ (frame-paged s noPages (17 ∷ 2 ∷ [])) (λ f.

@@ -7,8 +7,7 @@ use native.Mathlib.Omega.{arith}
 use lib.ListN.{length, drop}
 use Rattle.answer.specs.declared.Refusal.{Refusal}
 use Rattle.answer.specs.Outcome.{refused, ok, on}
-use Rattle.le.specs.Number.{bytesOf}
-use Rattle.le.proofs.Numbers.{Bytes}
+use Rattle.le.specs.Number.{bytesOf, Bytes}
 use Rattle.frame.specs.declared.cursor.Cursor.{Cursor}
 use Rattle.frame.specs.declared.cursor.PageAt.{PageAt}
 use Rattle.frame.specs.Step.{Turn, page, end, part, firstOf, stepOf}

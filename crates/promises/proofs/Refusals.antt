@@ -7,7 +7,6 @@ use Rattle.answer.specs.Refusal.{because, onPage}
 use Rattle.answer.specs.Outcome.{Out, refused, ok, need, on, inPage}
 use Rattle.answer.specs.Rule.{rule}
 use Rattle.answer.proofs.Outcomes.{never, refused-inj}
-use Rattle.entry.specs.Step.{pick}
 use Rattle.promises.specs.Refusing.{Refuses}
 
 module _ {A : Type 0} (Such : Refusal → Type 0) where
@@ -44,10 +43,6 @@ test-gives Such false o p g h = h refl
 
 pub cond-gives : {A : Type 0} (Such : Refusal → Type 0) (b : Bool) (o p : Out A) → Refuses Such o → Refuses Such p → Refuses Such (cond b o p)
 cond-gives Such b o p g h = test-gives Such b o p (λ e. g) (λ e. h)
-
-pub pick-gives : {A : Type 0} (Such : Refusal → Type 0) (b : Bool) (o p : Out A) → Refuses Such o → Refuses Such p → Refuses Such (pick b o p)
-pick-gives Such true o p g h = g
-pick-gives Such false o p g h = h
 
 pub rule-gives : (Such : Refusal → Type 0) (b : Bool) (n : ℕ) → Such (because n) → Refuses Such (rule b n)
 unfolding rule

@@ -8,7 +8,7 @@ use lib.ListN.{length}
 use borrow.Author.Tests.{leb-true}
 use Rattle.answer.specs.Outcome.{Out, ok}
 use Rattle.answer.proofs.Outcomes.{need-ok, ok-inj}
-use Rattle.entry.proofs.Entries.{Below}
+use Rattle.entry.specs.Entry.{Below}
 use Rattle.width.specs.Width.{widthOf}
 use Rattle.width.proofs.Sizes.{width-least}
 use Rattle.column.specs.Column.{IsColumn, encodeAt, encode}

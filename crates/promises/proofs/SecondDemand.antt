@@ -8,8 +8,8 @@ use native.Mathlib.Omega.{arith}
 use lib.ListN.{length}
 use Rattle.answer.specs.Outcome.{ok}
 use Rattle.answer.proofs.Outcomes.{ok-inj}
-use Rattle.le.proofs.Numbers.{Bytes}
-use Rattle.entry.proofs.Entries.{Below}
+use Rattle.le.specs.Number.{Bytes}
+use Rattle.entry.specs.Entry.{Below}
 use Rattle.width.specs.Width.{S, zsOf, widthOf}
 use Rattle.column.specs.Column.{IsColumn, encodeAt, encode}
 use Rattle.column.specs.Write.{writeOf}

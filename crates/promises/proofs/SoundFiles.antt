@@ -1,52 +1,51 @@
 -- What acceptance means: the full check accepts exactly the sound files, and their shapes are the file's. Assumes nothing.
-use Prim.Native.Nat.{ℕ, zero, suc, _+_, _≤_, _<_}
-use mathlib.Core.Path.{_≡_, refl, sym, ap, ap₂, _∙_, subst}
-use mathlib.Core.Bool.{true}
+use Prim.Native.Nat.{ℕ, zero, suc, _+_, _≤_}
+use mathlib.Core.Path.{_≡_, refl, sym, ap, _∙_, subst}
 use mathlib.Core.List.{List, [], _∷_, _++_}
-use native.Mathlib.Nat.{le-refl, zero-lt-suc}
+use native.Mathlib.Nat.{le-refl}
 use native.Mathlib.Omega.{arith}
-use lib.ListN.{length, getD}
-use borrow.Author.Tests.{le-leb}
+use lib.ListN.{length}
 use Rattle.answer.specs.Table as table
-use Rattle.answer.specs.Outcome.{ok, on, inPage}
+use Rattle.answer.specs.Outcome.{ok, inPage}
 use Rattle.answer.proofs.Outcomes.{ok-inj, on-ok, in-page-ok}
 use Rattle.answer.proofs.Rules.{rule-holds, rule-ok}
 use Rattle.answer.proofs.Both.{both}
-use Rattle.le.specs.Number.{bytesOf}
+use Rattle.le.specs.Number.{bytesOf, Bytes}
 use Rattle.le.specs.Block as block
-use Rattle.le.proofs.Numbers.{Bytes, bytes-part}
-use Rattle.column.specs.Read.{decodeOf, readOf}
-use Rattle.column.proofs.Decoding.{read-decode, scratch-ok}
+use Rattle.le.proofs.Numbers.{bytes-part}
+use Rattle.column.specs.Read.{decodeOf}
+use Rattle.column.proofs.Decoding.{read-decode}
 use Rattle.extent.specs.Boxes.{patterns}
 use Rattle.types.specs.Parts.{partsRule}
 use Rattle.types.proofs.Passed.{parts-passed}
-use Rattle.shape.specs.Outline.{Shape, shapesOf}
+use Rattle.shape.specs.Outline.{Shape}
 use Rattle.shape.specs.Rules.{finiteRule, ringRule, gridRule, turnRule, boxHolds, boxRule}
 use Rattle.shape.proofs.Passing.{finite-passed, ring-passed, grid-passed, turn-passed}
 use Rattle.frame.specs.declared.head.Head.{Head}
 use Rattle.frame.specs.declared.walk.Totals.{Totals}
 use Rattle.frame.specs.Head.{headOf}
-use Rattle.frame.specs.Frame.{Page, Frame, frameOf, totalsOf}
+use Rattle.frame.specs.Frame.{Page, Frame, totalsOf}
 use Rattle.frame.specs.Frame as frame
-use Rattle.frame.specs.Whole.{IsFile, Every, none, more, blockOf, pageBlocks, endBlock, fileOf}
+use Rattle.frame.specs.Whole.{Every, none, more, blockOf, pageBlocks, endBlock, fileOf}
 use Rattle.frame.proofs.Heads.{head-is, head-limits}
 use Rattle.frame.proofs.Wholes.{frame-is, is-frame}
-use Rattle.page.specs.Contents.{registersOf, typesOf, countsOf, lensOf, xPart, yPart, Vertices, verticesOf, outlineRules, contentsOf}
+use Rattle.page.specs.Contents.{typesOf, countsOf, lensOf, xPart, yPart, Vertices, verticesOf, outlineRules, contentsOf}
 use Rattle.page.proofs.Orders.{on-value}
 use Rattle.file.specs.File.{pagesOf, shapesIn}
 use Rattle.file.specs.Check.{checkOf}
 use Rattle.file.proofs.Rests.{pages-first}
 use Rattle.file.proofs.Checks.{shapes-are, check-accepts, accepts-check}
+use Rattle.promises.specs.Holding.{ColumnHolds}
 use Rattle.promises.specs.SoundFile.{outlinesIn, SoundPage, SoundPages, SoundFile}
 use Rattle.promises.specs.SoundFile as sound
 use Rattle.promises.proofs.Accepted as accepted
 
 -- ---- a column of a page
 
-pub column-read : (s : List ℕ) (n : ℕ) (vs : List ℕ) → n ≤ 2048 → accepted.Holds 64 s n n vs → decodeOf 64 s n ≡ ok vs
+pub column-read : (s : List ℕ) (n : ℕ) (vs : List ℕ) → n ≤ 2048 → ColumnHolds 64 s n n vs → decodeOf 64 s n ≡ ok vs
 column-read s n vs l h = sym (read-decode 64 s n n l (le-refl n)) ∙ accepted.held-read 64 s n n vs (omega arith) h
 
-pub column-held : (s : List ℕ) (n : ℕ) (vs : List ℕ) → n ≤ 2048 → Bytes s → decodeOf 64 s n ≡ ok vs → accepted.Holds 64 s n n vs
+pub column-held : (s : List ℕ) (n : ℕ) (vs : List ℕ) → n ≤ 2048 → Bytes s → decodeOf 64 s n ≡ ok vs → ColumnHolds 64 s n n vs
 column-held s n vs l y e = accepted.read-held 64 s n n vs (omega arith) y (read-decode 64 s n n l (le-refl n) ∙ e)
 
 -- ---- a page
@@ -147,7 +146,7 @@ pub pages-sound : (k : ℕ) {ps : List Page} (shapes : List Shape) → Every 1 p
 unfolding pagesOf pageBlocks blockOf inPage
 pages-sound k shapes none y e = subst (SoundPages []) (ok-inj e) sound.none
 pages-sound k shapes (more {p = p} {ps = ps} says rest) y e =
-    let own : Bytes (p .body) = bytes-right (block.headOf (length (p .body)) 2) (p .body) (bytes-left (blockOf 2 (p .body)) (pageBlocks ps) y) in
+    let own : Bytes (p .body) = bytes-right (block.blockHead (length (p .body)) 2) (p .body) (bytes-left (blockOf 2 (p .body)) (pageBlocks ps) y) in
     let here = on-ok (inPage k (contentsOf (p .head) (p .body))) _ shapes e in
     let others = on-ok (pagesOf (suc k) ps) _ shapes (here .2) in
     let contents : contentsOf (p .head) (p .body) ≡ ok (here .0) = in-page-ok k (contentsOf (p .head) (p .body)) (here .0) (here .1) in

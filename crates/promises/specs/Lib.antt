@@ -1,4 +1,6 @@
 pub mod Worked
+pub mod Holding
+pub mod Fitting
 pub mod Sample
 pub mod SoundFile
 pub mod Writing

@@ -1,25 +1,21 @@
 -- Which refusal numbers a service can give: the lists of document 01's "Order". Assumes nothing.
 use Prim.Native.Nat.{ℕ}
 use mathlib.Core.Path.{_≡_}
-use mathlib.Core.Bool.{Bool, true, false, _&&_, _||_}
+use mathlib.Core.Bool.{true, _&&_}
 use mathlib.Core.List.{List, [], _∷_, _++_}
 use lib.Dec.{eqb}
 use Rattle.answer.specs.declared.Refusal.{Refusal}
 use Rattle.answer.specs.Outcome.{Out}
+use Rattle.search.specs.Listed.{listed}
 use Rattle.promises.specs.Refusing.{Refuses}
-
--- a number is one of these
-unfoldable pub oneOf : ℕ → List ℕ → Bool
-oneOf n [] = false
-oneOf n (m ∷ ms) = eqb n m || oneOf n ms
 
 -- a refusal by one of these numbers
 abbrev pub by : List ℕ → Refusal → Type 0
-by ns w = oneOf (w .number) ns ≡ true
+by ns w = listed (w .number) ns ≡ true
 
 -- and which concerns no page: its page number is 0
 abbrev pub plain : List ℕ → Refusal → Type 0
-plain ns w = (oneOf (w .number) ns && eqb (w .page) 0) ≡ true
+plain ns w = (listed (w .number) ns && eqb (w .page) 0) ≡ true
 
 -- whatever refusal an outcome is, its number is one of these
 abbrev pub Gives : {A : Type 0} → List ℕ → Out A → Type 0
@@ -69,10 +65,11 @@ count = 1 ∷ check
 abbrev pub noShape : List ℕ
 noShape = 17 ∷ []
 
--- "Fetch: frame, 17, contents of its page, 2"
+-- a shape's place: frame, 17
 abbrev pub place : List ℕ
 place = frame ++ noShape
 
+-- "Fetch: frame, 17, contents of its page, 2"
 abbrev pub fetch : List ℕ
 fetch = place ++ contents ++ (2 ∷ [])
 
@@ -80,16 +77,22 @@ fetch = place ++ contents ++ (2 ∷ [])
 abbrev pub rows : List ℕ
 rows = place ++ (2 ∷ [])
 
--- a page's block alone: 6, 11, 12, 13, 14, 15, 2
+-- a page's block, with a room of its own: 6, 11, 12, 13, 14, 15, 2
 abbrev pub pageBlock : List ℕ
 pageBlock = 6 ∷ 11 ∷ 12 ∷ 13 ∷ 14 ∷ 15 ∷ 2 ∷ []
 
--- "Writer: open (2), page (18, 3, 6, 11, 12, 13, 14, 15, 2), close (18, 3, 2)"
+-- "Writer: open (2)"
 abbrev pub writerOpen : List ℕ
 writerOpen = 2 ∷ []
 
+-- "page (18, 3, 6, 11, 12, 13, 14, 15, 2)"
 abbrev pub writerPage : List ℕ
 writerPage = 18 ∷ 3 ∷ pageBlock
 
+-- "close (18, 3, 2)"
 abbrev pub writerClose : List ℕ
 writerClose = 18 ∷ 3 ∷ 2 ∷ []
+
+-- one value a call through four words: 2 where there are fewer, and then as one value a call
+abbrev pub stepThroughWords : List ℕ
+stepThroughWords = 2 ∷ columnStep

@@ -1,13 +1,11 @@
 -- The sample file of document 01, byte by byte: "Page 0: register 101, Polygon (0,0) (0,10) (10,10) (10,0) (0,0); register 102, Point (20,5).
 -- Page 1: register 101, LineString (-5,-5) (-1,-1); register 103, empty." The bytes were worked out from the document apart from the code.
 -- Assumes nothing.
-use Prim.Native.Nat.{ℕ, _*_}
-use mathlib.Core.List.{List, [], _∷_, _++_}
-use lib.ListN.{length}
-use Rattle.answer.specs.Outcome.{Out, on}
-use Rattle.le.specs.Number.{runOf}
-use Rattle.le.specs.Block.{headOf}
-use Rattle.query.specs.Block.{askOf}
+use Prim.Native.Nat.{ℕ}
+use mathlib.Core.Path.{_≡_}
+use mathlib.Core.List.{List, [], _∷_}
+use Rattle.answer.specs.Outcome.{Out, ok, on}
+use Rattle.query.specs.Block.{askOf, blockWith}
 use Rattle.search.specs.Search.{searchOf}
 
 -- the bytes
@@ -111,26 +109,35 @@ sample =
 
 -- ---- searching it
 
--- the patterns of 0, -0, 5, 10 and 10.5
+-- the pattern of 0
 abbrev pub zeroed : ℕ
 zeroed = 0
 
+-- of -0
 abbrev pub minusZero : ℕ
 minusZero = 9223372036854775808
 
+-- of 5
 abbrev pub five : ℕ
 five = 4617315517961601024
 
+-- of 10
 abbrev pub ten : ℕ
 ten = 4621819117588971520
 
+-- of 10.5
 abbrev pub tenAndAHalf : ℕ
 tenAndAHalf = 4622100592565682176
 
--- a query block, by the patterns of its body: none for everything, two for a spot, four for a window
-abbrev pub blockWith : List ℕ → List ℕ
-blockWith ps = headOf (8 * length ps) 4 ++ runOf 8 ps
-
--- what the search lists for a query block, with room for 4,096 places
+-- what the search lists for the query block of these patterns, with room for 4,096 places: none for everything, two for a spot, four for a window
 abbrev pub foundBy : List ℕ → Out (List ℕ)
 foundBy ps = on (askOf (blockWith ps)) (λ a. searchOf a sample 4096)
+
+-- "Window (0,0,10,10)" lists place 0, and so do "spot (10,10)" and "spot (-0,0)"; "spot (10.5,5) none; everything, four"
+abbrev pub Found : Type 0
+Found =
+    (foundBy (zeroed ∷ zeroed ∷ ten ∷ ten ∷ []) ≡ ok (0 ∷ []))
+    × (foundBy (ten ∷ ten ∷ []) ≡ ok (0 ∷ []))
+    × (foundBy (minusZero ∷ zeroed ∷ []) ≡ ok (0 ∷ []))
+    × (foundBy (tenAndAHalf ∷ five ∷ []) ≡ ok [])
+    × (foundBy [] ≡ ok (0 ∷ 1 ∷ 2 ∷ 3 ∷ []))

@@ -5,13 +5,13 @@ use mathlib.Core.Path.{_≡_}
 use mathlib.Core.Bool.{true}
 use mathlib.Core.List.{List, [], _∷_, _++_}
 use lib.ListN.{length}
-use Rattle.entry.proofs.Entries.{Below}
+use Rattle.entry.specs.Entry.{Below}
 use Rattle.column.specs.Column.{IsColumn}
 use Rattle.extent.specs.Rank.{allFinite}
 use Rattle.extent.specs.Boxes.{patterns}
-use Rattle.types.specs.Every.{allOf}
+use Rattle.answer.specs.Every.{allOf}
 use Rattle.types.specs.Parts.{partsHold}
-use Rattle.shape.specs.Outline.{Outline, Shape, outlinesOf, shapesOf}
+use Rattle.shape.specs.Outline.{Outline, Shape, outlinesOf, registered}
 use Rattle.shape.specs.Rules.{ringsClosed, onGridShape, turnsHold, boxHolds}
 use Rattle.frame.specs.declared.head.Head.{Head}
 use Rattle.frame.specs.Frame.{Page, Frame}
@@ -39,7 +39,7 @@ pub record SoundPage (h : Head) (b : List ℕ) (shapes : List Shape) : Type 0 wh
   pub on-grid : allOf onGridShape (outlinesIn h b xs ys) ≡ true
   pub turned : allOf turnsHold (outlinesIn h b xs ys) ≡ true
   pub boxed : boxHolds (patterns (h .bounds)) xs ys ≡ true
-  pub shapes-are : shapes ≡ shapesOf (registersOf h b) (outlinesIn h b xs ys)
+  pub shapes-are : shapes ≡ registered (registersOf h b) (outlinesIn h b xs ys)
 
 -- each page's contents are sound, and the shapes are those of all pages, in order
 pub data SoundPages : List Page → List Shape → Type 0 where

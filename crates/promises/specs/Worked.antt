@@ -13,6 +13,7 @@ use Rattle.column.specs.Column.{columnAt}
 use Rattle.column.specs.Write.{writeOf}
 use Rattle.column.specs.Read.{readOf}
 
+-- a row of the table
 pub data Row : Type 0 where
   -- these values are written as these bytes
   writes : List ℕ → List ℕ → Row
@@ -30,19 +31,19 @@ pub data Row : Type 0 where
   reads : List ℕ → ℕ → Out (List ℕ) → Row
 
 -- what a row says of the definitions; a room is as long as need be
-abbrev pub Says : Row → Type 0
-Says (writes vs s) = writeOf 64 vs (length s) ≡ ok s
-Says (steps a v z) = zOf 64 a v ≡ z
-Says (marks n m) = marker n ≡ m
-Says (takes vs n) = widthOf 64 vs ≡ n
-Says (sizes vs k) = bits (columnAt 64 (widthOf 64 vs) vs) ≡ k
-Says (ties vs n m) = S 64 (zsOf 64 vs) n ≡ S 64 (zsOf 64 vs) m
-Says (reads s n o) = readOf 64 s n n ≡ o
+abbrev pub RowHolds : Row → Type 0
+RowHolds (writes vs s) = writeOf 64 vs (length s) ≡ ok s
+RowHolds (steps a v z) = zOf 64 a v ≡ z
+RowHolds (marks n m) = marker n ≡ m
+RowHolds (takes vs n) = widthOf 64 vs ≡ n
+RowHolds (sizes vs k) = bits (columnAt 64 (widthOf 64 vs) vs) ≡ k
+RowHolds (ties vs n m) = S 64 (zsOf 64 vs) n ≡ S 64 (zsOf 64 vs) m
+RowHolds (reads s n o) = readOf 64 s n n ≡ o
 
 -- each row holds
-pub data Every : List Row → Type 0 where
-  last : Every []
-  then : {r : Row} {rs : List Row} → Says r → Every rs → Every (r ∷ rs)
+pub data EachHolds : List Row → Type 0 where
+  last : EachHolds []
+  then : {r : Row} {rs : List Row} → RowHolds r → EachHolds rs → EachHolds (r ∷ rs)
 
 -- eight zero bytes
 abbrev pub 00x8 : List ℕ
@@ -53,8 +54,8 @@ abbrev pub one : ℕ
 one = 1023 * 2 ^ 52
 
 -- the rows, in the document's order; b is any byte
-abbrev pub rows : ℕ → List Row
-rows b =
+abbrev pub workedRows : ℕ → List Row
+workedRows b =
     writes [] []
     ∷ reads (b ∷ []) 0 (refused (because Table.bits))
     ∷ writes (0 ∷ []) (0 ∷ 00x8)

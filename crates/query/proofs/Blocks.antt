@@ -30,7 +30,7 @@ use Rattle.query.specs.declared.block.BlockLen.{BlockLen}
 use Rattle.query.specs.declared.block.BlockLen.the-variants as len
 use Rattle.query.specs.declared.block.AskRead.{AskRead}
 use Rattle.query.specs.declared.block.AskRead.the-variants as read
-use Rattle.query.specs.Block.{instead, bodyLen, lenOf, blockLen, saidLen, spotAsked, windowAsked, asked, askOf, said}
+use Rattle.query.specs.Block.{instead, bodyLen, lenOf, blockLen, saidLen, spotAsked, windowAsked, asked, askOf, saidAsk}
 
 -- ---- the body's length
 
@@ -162,8 +162,8 @@ said-len-one (len.Is a) (len.Refused w) e = absurd (never (sym e))
 said-len-one (len.Refused w) (len.Is b) e = absurd (never e)
 said-len-one (len.Refused w) (len.Refused x) e = ap len.Refused (refused-inj e)
 
-pub said-one : (a b : AskRead) → said a ≡ said b → a ≡ b
-unfolding said
+pub said-one : (a b : AskRead) → saidAsk a ≡ saidAsk b → a ≡ b
+unfolding saidAsk
 said-one (read.Asked a) (read.Asked b) e = ap read.Asked (ok-inj e)
 said-one (read.Asked a) (read.Refused w) e = absurd (never (sym e))
 said-one (read.Refused w) (read.Asked b) e = absurd (never e)

@@ -26,6 +26,7 @@ use Rattle.query.specs.declared.ask.Ask.{Ask}
 use Rattle.query.specs.declared.ask.Query.the-variants.{Everything}
 use Rattle.query.specs.Ask.{sound}
 use Rattle.query.specs.Block.{instead, bodyLen, lenOf, blockLen, spotAsked, windowAsked, asked, askOf}
+use Rattle.query.specs.Accepted.{Fronts, Accepts}
 use Rattle.query.proofs.Blocks.{len-is, block-found, ask-exactly, body-most}
 
 -- ---- what is asked is sound
@@ -71,14 +72,6 @@ instead-ok : {A : Type 0} (w : Refusal) (o : Out A) (a : A) → instead w o ≡ 
 unfolding instead
 instead-ok w (refused x) a e = absurd (never e)
 instead-ok w (ok b) a e = e
-
--- a query block of n bytes at the front: the block that stands there
-pub record Fronts (s : List ℕ) (n : ℕ) : Type 0 where
-  pub block : Block
-  pub found : blockAt s 0 ≡ ok block
-  pub kind : block .kind ≡ 4
-  pub body : bodyLen (block .len) ≡ true
-  pub takes : 6 + block .len ≡ n
 
 pub len-fronts : (s : List ℕ) (n : ℕ) → blockLen s ≡ ok n → Fronts s n
 unfolding blockLen lenOf
@@ -133,10 +126,6 @@ len-alone s n e =
     })
 
 -- ---- exactly a block: what is accepted, and that it is
-
-pub record Accepts (s : List ℕ) (a : Ask) : Type 0 where
-  pub exactly : Fronts s (length s)
-  pub says : asked s ≡ ok a
 
 pub ask-accepts : (s : List ℕ) (a : Ask) → askOf s ≡ ok a → Accepts s a
 unfolding askOf

@@ -8,7 +8,7 @@ use lib.ListN.{length}
 use lib.Ieee.{Float}
 use Rattle.answer.proofs.Both.{both-l, both-r}
 use Rattle.extent.specs.Rank.{finite}
-use Rattle.extent.specs.Boxes.{Bounds, FiniteBox, bitsOf, patterns, goodForm, meets, spotOf, boxOf}
+use Rattle.extent.specs.Boxes.{Bounds, FiniteBox, patternOf, patterns, goodForm, meets, spotOf, boxOf}
 use Rattle.extent.specs.declared.boxes.Box.{Box}
 use Rattle.extent.proofs.Forms.{good-finite}
 use Rattle.query.specs.declared.ask.Query.{Query}
@@ -54,7 +54,7 @@ module _ (q : Query) (r : Reach) where
   unfolding touches
   touches-everything e = ap (λ (k : Query). touches k r) e
 
-  pub touches-spot : (x y : Float) → q ≡ Spot x y → touches q r ≡ inWindow (spotOf (bitsOf x) (bitsOf y)) r
+  pub touches-spot : (x y : Float) → q ≡ Spot x y → touches q r ≡ inWindow (spotOf (patternOf x) (patternOf y)) r
   unfolding touches
   touches-spot x y e = ap (λ (k : Query). touches k r) e
 
@@ -69,7 +69,7 @@ module _ (q : Query) where
   unfolding sound
   sound-everything e = ap sound e
 
-  pub sound-spot : (x y : Float) → q ≡ Spot x y → sound q ≡ (finite (bitsOf x) && finite (bitsOf y))
+  pub sound-spot : (x y : Float) → q ≡ Spot x y → sound q ≡ (finite (patternOf x) && finite (patternOf y))
   unfolding sound
   sound-spot x y e = ap sound e
 
@@ -78,11 +78,11 @@ module _ (q : Query) where
   sound-window b e = ap sound e
 
   -- its window is finite
-  pub spot-finite : (x y : Float) → q ≡ Spot x y → sound q ≡ true → FiniteBox (spotOf (bitsOf x) (bitsOf y))
+  pub spot-finite : (x y : Float) → q ≡ Spot x y → sound q ≡ true → FiniteBox (spotOf (patternOf x) (patternOf y))
   spot-finite x y e s =
       let h = sym (sound-spot x y e) ∙ s in
-      let f = both-l (finite (bitsOf x)) (finite (bitsOf y)) h in
-      let g = both-r (finite (bitsOf x)) (finite (bitsOf y)) h in
+      let f = both-l (finite (patternOf x)) (finite (patternOf y)) h in
+      let g = both-r (finite (patternOf x)) (finite (patternOf y)) h in
       record { least-x = f; least-y = g; greatest-x = f; greatest-y = g }
 
   pub window-finite : (b : Box) → q ≡ Window b → sound q ≡ true → FiniteBox (patterns b)

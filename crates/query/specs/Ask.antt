@@ -5,7 +5,7 @@ use Prim.Native.Nat.{ℕ, zero, suc}
 use mathlib.Core.Bool.{Bool, true, false, _&&_}
 use mathlib.Core.List.{List, [], _∷_}
 use Rattle.extent.specs.Rank.{finite}
-use Rattle.extent.specs.Boxes.{Bounds, bitsOf, patterns, goodForm, meets, spotOf, boxOf}
+use Rattle.extent.specs.Boxes.{Bounds, patternOf, patterns, goodForm, meets, spotOf, boxOf}
 use Rattle.query.specs.declared.ask.Ask.{Ask}
 use Rattle.query.specs.declared.ask.Query.{Query}
 use Rattle.query.specs.declared.ask.Query.the-variants.{Everything, Spot, Window}
@@ -13,7 +13,7 @@ use Rattle.query.specs.declared.ask.Query.the-variants.{Everything, Spot
 -- its coordinates are finite and least ≤ greatest, whatever floats they are: the pattern of a NaN or an infinity is not finite
 unfoldable pub sound : Query → Bool
 sound Everything = true
-sound (Spot x y) = finite (bitsOf x) && finite (bitsOf y)
+sound (Spot x y) = finite (patternOf x) && finite (patternOf y)
 sound (Window b) = goodForm (patterns b)
 
 -- ---- what something takes up
@@ -43,7 +43,7 @@ inWindow w (within p) = meets w p
 -- the query for everything meets whatever there is; a spot is a window of one point
 unfoldable pub touches : Query → Reach → Bool
 touches Everything r = true
-touches (Spot x y) r = inWindow (spotOf (bitsOf x) (bitsOf y)) r
+touches (Spot x y) r = inWindow (spotOf (patternOf x) (patternOf y)) r
 touches (Window b) r = inWindow (patterns b) r
 
 -- what is asked meets a shape, by the x and the y of its vertices

@@ -12,9 +12,9 @@ use Rattle.answer.specs.Refusal.{because}
 use Rattle.answer.specs.Outcome.{Out, refused, ok, need, on}
 use Rattle.le.specs.declared.block.Block.{Block}
 use Rattle.le.specs.Number.{numberAt, runOf}
-use Rattle.le.specs.Block.{blockAt, headOf}
+use Rattle.le.specs.Block.{blockAt, blockHead}
 use Rattle.extent.specs.Rank.{finite}
-use Rattle.extent.specs.Boxes.{Bounds, boundsAt, bitsOf, goodForm}
+use Rattle.extent.specs.Boxes.{Bounds, boundsAt, patternOf, goodForm}
 use Rattle.extent.specs.Forms.{floatsOf}
 use Rattle.query.specs.declared.ask.Ask.{Ask}
 use Rattle.query.specs.declared.ask.Query.{Query}
@@ -39,6 +39,7 @@ bodyLen n = eqb n 0 || eqb n 16 || eqb n 32
 unfoldable pub lenOf : Block → Out ℕ
 lenOf b = need (eqb (b .kind) 4 && bodyLen (b .len)) (because query) (ok (6 + b .len))
 
+-- those of the query block at the front of the bytes s
 unfoldable pub blockLen : List ℕ → Out ℕ
 blockLen s = on (instead (because query) (blockAt s 0)) lenOf
 
@@ -69,18 +70,22 @@ unfoldable pub askOf : List ℕ → Out Ask
 askOf s = on (blockLen s) (λ n. need (eqb n (length s)) (because query) (asked s))
 
 -- what the code's answer says
-unfoldable pub said : AskRead → Out Ask
-said (read.Asked a) = ok a
-said (read.Refused w) = refused w
+unfoldable pub saidAsk : AskRead → Out Ask
+saidAsk (read.Asked a) = ok a
+saidAsk (read.Refused w) = refused w
 
 -- ---- the block of a query, as bytes
 
 -- a query's patterns, in the order of the body
-unfoldable pub wordsOf : Query → List ℕ
-wordsOf Everything = []
-wordsOf (Spot x y) = bitsOf x ∷ bitsOf y ∷ []
-wordsOf (Window b) = bitsOf (b .«least_x») ∷ bitsOf (b .«least_y») ∷ bitsOf (b .«greatest_x») ∷ bitsOf (b .«greatest_y») ∷ []
+unfoldable pub queryPatterns : Query → List ℕ
+queryPatterns Everything = []
+queryPatterns (Spot x y) = patternOf x ∷ patternOf y ∷ []
+queryPatterns (Window b) = patternOf (b .«least_x») ∷ patternOf (b .«least_y») ∷ patternOf (b .«greatest_x») ∷ patternOf (b .«greatest_y») ∷ []
 
--- a head of kind 4, and the patterns, eight bytes each
-unfoldable pub blockOf : Query → List ℕ
-blockOf q = headOf (8 * length (wordsOf q)) 4 ++ runOf 8 (wordsOf q)
+-- a head of kind 4, and patterns, eight bytes each
+abbrev pub blockWith : List ℕ → List ℕ
+blockWith ps = blockHead (8 * length ps) 4 ++ runOf 8 ps
+
+-- the block of a query
+unfoldable pub queryBlock : Query → List ℕ
+queryBlock q = blockWith (queryPatterns q)

@@ -1,2 +1,3 @@
 pub mod Ask
 pub mod Block
+pub mod Accepted

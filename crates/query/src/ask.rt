@@ -6,7 +6,7 @@ ghost use lib.ListN.{length};
 ghost use Rattle.answer.specs.Table.{query};
 ghost use Rattle.answer.specs.Rule.{rule, judged};
 ghost use Rattle.extent.specs.Rank.{finite, allFinite};
-ghost use Rattle.extent.specs.Boxes.{bitsOf, patterns, FiniteBox, spotOf};
+ghost use Rattle.extent.specs.Boxes.{patternOf, patterns, FiniteBox, spotOf};
 ghost use Rattle.query.specs.Ask.{sound, reachOf, stored, inWindow, hit, opens};
 use answer::Verdict;
 use answer::table::QUERY;
@@ -30,7 +30,7 @@ pub struct Ask {
 
 // Whether both coordinates of a spot are finite.
 fn spot_finite(x: f64, y: f64) -> bool
-    ensures { λ r. ⌜ r ≡ (finite (bitsOf x) && finite (bitsOf y)) ⌝ }
+    ensures { λ r. ⌜ r ≡ (finite (patternOf x) && finite (patternOf y)) ⌝ }
 {
     if finite_float(x) {
         return finite_float(y);
@@ -59,7 +59,7 @@ pub fn judge(a: Ask) -> Verdict
 
 // A spot is a window of one point.
 fn point(x: f64, y: f64) -> Box
-    ensures { λ r. ⌜ patterns r ≡ spotOf (bitsOf x) (bitsOf y) ⌝ }
+    ensures { λ r. ⌜ patterns r ≡ spotOf (patternOf x) (patternOf y) ⌝ }
 {
     Box {
         least_x: x,

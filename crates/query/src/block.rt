@@ -8,7 +8,7 @@ ghost use Rattle.answer.specs.Refusal.{because};
 ghost use Rattle.answer.specs.Outcome.{refused};
 ghost use Rattle.extent.specs.Rank.{finite};
 ghost use Rattle.extent.specs.Boxes.{boundsAt};
-ghost use Rattle.query.specs.Block.{bodyLen, lenOf, blockLen, saidLen, spotAsked, windowAsked, asked, askOf, said};
+ghost use Rattle.query.specs.Block.{bodyLen, lenOf, blockLen, saidLen, spotAsked, windowAsked, asked, askOf, saidAsk};
 use crate::ask::Ask;
 use crate::ask::Query;
 use answer::Refusal;
@@ -81,7 +81,7 @@ pub fn block_len(s: &[u8]) -> BlockLen
 
 // Nothing that can be asked.
 fn unsound() -> AskRead
-    ensures { λ r. ⌜ said r ≡ refused (because query) ⌝ }
+    ensures { λ r. ⌜ saidAsk r ≡ refused (because query) ⌝ }
 {
     AskRead::Refused(Refusal::because(QUERY))
 }
@@ -98,7 +98,7 @@ fn both_finite(x: u64, y: u64) -> bool
 
 // The spot of two patterns.
 fn spot_asked(x: u64, y: u64) -> AskRead
-    ensures { λ r. ⌜ said r ≡ spotAsked x y ⌝ }
+    ensures { λ r. ⌜ saidAsk r ≡ spotAsked x y ⌝ }
 {
     if both_finite(x, y) {
         return AskRead::Asked(Ask {
@@ -111,7 +111,7 @@ fn spot_asked(x: u64, y: u64) -> AskRead
 // The window of the four patterns of a body.
 fn window_asked(s: &[u8]) -> AskRead
     requires { ⌜ 38 ≤ length (now s) ⌝ }
-    ensures { λ r. ⌜ said r ≡ windowAsked (boundsAt (now (s .entry)) 6) ⌝ }
+    ensures { λ r. ⌜ saidAsk r ≡ windowAsked (boundsAt (now (s .entry)) 6) ⌝ }
 {
     let form = form_of(u64_at(s, 6), u64_at(s, 14), u64_at(s, 22), u64_at(s, 30));
     match form {
@@ -124,7 +124,7 @@ fn window_asked(s: &[u8]) -> AskRead
 
 // What a block asks, by its length.
 fn asked(s: &[u8]) -> AskRead
-    ensures { λ r. ⌜ said r ≡ asked (now (s .entry)) ⌝ }
+    ensures { λ r. ⌜ saidAsk r ≡ asked (now (s .entry)) ⌝ }
 {
     let n = s.len();
     if n == 6 {
@@ -143,7 +143,7 @@ fn asked(s: &[u8]) -> AskRead
 
 // What exactly a query block asks.
 pub fn ask_of(s: &[u8]) -> AskRead
-    ensures { λ r. ⌜ said r ≡ askOf (now (s .entry)) ⌝ }
+    ensures { λ r. ⌜ saidAsk r ≡ askOf (now (s .entry)) ⌝ }
 {
     let len = block_len(s);
     match len {

@@ -13,8 +13,7 @@ use Rattle.answer.specs.Table as Table
 use Rattle.answer.specs.Refusal.{because}
 use Rattle.answer.specs.Outcome.{Out, refused, ok, need}
 use Rattle.answer.proofs.Outcomes.{met, unmet}
-use Rattle.le.specs.Number.{number, field}
-use Rattle.le.proofs.Numbers.{Bytes}
+use Rattle.le.specs.Number.{number, field, Bytes}
 use Rattle.entry.specs.Step.{marker}
 use Rattle.entry.specs.Entry.{sizeAt, valueAt}
 use Rattle.entry.proofs.Reading.{size-le, size-short, size-full}
@@ -24,49 +23,49 @@ use Rattle.column.specs.Read.{closed}
 use Rattle.column.proofs.Decoding.{closed-bits, closed-fill, closed-good, fill-zero, fill-some}
 use Rattle.reader.specs.declared.Answer.{Answer}
 use Rattle.reader.specs.declared.Answer.the-variants.{Value, End, Refused}
-use Rattle.reader.specs.Next.{Turn, value, end, position, firstOf, laterOf, nextOf, answered}
+use Rattle.reader.specs.Next.{ValueOrEnd, value, end, position, firstCall, laterCall, nextOf, answerWith}
 
 -- whole bytes without a sum that could pass 64 bits
 pub whole-law : (at : ℕ) → at / 8 + (at % 8 + 7) / 8 ≡ whole at
 whole-law at = omega arith
 
 -- a refusal, a value, the end
-pub said-refused : {o : Out Turn} (p : Position) (n : ℕ) → o ≡ refused (because n) → Refused (because n) p ≡ answered p o
-unfolding answered
+pub said-refused : {o : Out ValueOrEnd} (p : Position) (n : ℕ) → o ≡ refused (because n) → Refused (because n) p ≡ answerWith p o
+unfolding answerWith
 said-refused p n e = rw e
 
-pub said-value : {o : Out Turn} (p q : Position) (v : ℕ) → o ≡ ok (value v q) → Value v q ≡ answered p o
-unfolding answered
+pub said-value : {o : Out ValueOrEnd} (p q : Position) (v : ℕ) → o ≡ ok (value v q) → Value v q ≡ answerWith p o
+unfolding answerWith
 said-value p q v e = rw e
 
-pub said-end : {o : Out Turn} (p : Position) → o ≡ ok end → End p ≡ answered p o
-unfolding answered
+pub said-end : {o : Out ValueOrEnd} (p : Position) → o ≡ ok end → End p ≡ answerWith p o
+unfolding answerWith
 said-end p e = rw e
 
 -- ---- with none given
 
 module _ (P : ℕ) (s : List ℕ) (n : ℕ) where
-  pub first-none : n ≡ 0 → firstOf P s n ≡ closed s 0 (ok end)
-  unfolding firstOf
+  pub first-none : n ≡ 0 → firstCall P s n ≡ closed s 0 (ok end)
+  unfolding firstCall
   first-none e = simp (eq-eqb _ _ e)
 
   module _ (h0 : n ≡ 0 → ⊥) where
-    pub first-empty : length s ≡ 0 → firstOf P s n ≡ refused (because Table.bits)
-    unfolding firstOf
+    pub first-empty : length s ≡ 0 → firstCall P s n ≡ refused (because Table.bits)
+    unfolding firstCall
     first-empty l = simp (ne-eqb _ _ h0) (unmet _ _ (lt-leb 1 (length s) (omega arith)))
 
     module _ (hs : length s ≡ 0 → ⊥) where
-      pub first-wide : P < getD s 0 0 → firstOf P s n ≡ refused (because Table.wide)
-      unfolding firstOf
+      pub first-wide : P < getD s 0 0 → firstCall P s n ≡ refused (because Table.wide)
+      unfolding firstCall
       first-wide l = simp (ne-eqb _ _ h0) (met _ _ (le-leb 1 (length s) (omega arith)) ∙ unmet _ _ (lt-leb _ _ l))
 
       module _ (hw : getD s 0 0 ≤ P) where
-        pub first-short : 8 * length s < 8 + P → firstOf P s n ≡ refused (because Table.bits)
-        unfolding firstOf
+        pub first-short : 8 * length s < 8 + P → firstCall P s n ≡ refused (because Table.bits)
+        unfolding firstCall
         first-short l = simp (ne-eqb _ _ h0) (met _ _ (le-leb 1 (length s) (omega arith)) ∙ met _ _ (le-leb _ _ hw) ∙ unmet _ _ (lt-leb _ _ l))
 
-        pub first-value : 8 + P ≤ 8 * length s → firstOf P s n ≡ ok (value (field (number s) 8 P) (position (8 + P) 1 (getD s 0 0) (field (number s) 8 P)))
-        unfolding firstOf
+        pub first-value : 8 + P ≤ 8 * length s → firstCall P s n ≡ ok (value (field (number s) 8 P) (position (8 + P) 1 (getD s 0 0) (field (number s) 8 P)))
+        unfolding firstCall
         first-value l = simp (ne-eqb _ _ h0) (met _ _ (le-leb 1 (length s) (omega arith)) ∙ met _ _ (le-leb _ _ hw) ∙ met _ _ (le-leb _ _ l))
 
 -- ---- with some given
@@ -78,29 +77,29 @@ module _ (P : ℕ) (s : List ℕ) (n : ℕ) (p : Position) where
   abbrev next-value : ℕ
   next-value = valueAt P (number s) (p .width) (p .at) (p .last)
 
-  pub later-wide : P < p .width → laterOf P s n p ≡ refused (because Table.wide)
-  unfolding laterOf
+  pub later-wide : P < p .width → laterCall P s n p ≡ refused (because Table.wide)
+  unfolding laterCall
   later-wide h = unmet _ _ (lt-leb _ _ h)
 
   module _ (hw : p .width ≤ P) where
-    pub later-past : 8 * length s < p .at → laterOf P s n p ≡ refused (because Table.bits)
-    unfolding laterOf
+    pub later-past : 8 * length s < p .at → laterCall P s n p ≡ refused (because Table.bits)
+    unfolding laterCall
     later-past h = met _ _ (le-leb _ _ hw) ∙ unmet _ _ (lt-leb _ _ h)
 
     module _ (ha : p .at ≤ 8 * length s) where
-      pub later-end : n ≤ p .given → laterOf P s n p ≡ closed s (p .at) (ok end)
-      unfolding laterOf
+      pub later-end : n ≤ p .given → laterCall P s n p ≡ closed s (p .at) (ok end)
+      unfolding laterCall
       later-end h = met _ _ (le-leb _ _ hw) ∙ met _ _ (le-leb _ _ ha) ∙ simp (le-leb _ _ h)
 
       module _ (hg : p .given < n) where
-        going : laterOf P s n p ≡ need (leb next-place (8 * length s)) (because Table.bits) (need (ltb next-place (2 ^ 64)) (because Table.bits) (ok (value next-value (position next-place (p .given + 1) (p .width) next-value))))
-        unfolding laterOf
+        going : laterCall P s n p ≡ need (leb next-place (8 * length s)) (because Table.bits) (need (ltb next-place (2 ^ 64)) (because Table.bits) (ok (value next-value (position next-place (p .given + 1) (p .width) next-value))))
+        unfolding laterCall
         going = met _ _ (le-leb _ _ hw) ∙ met _ _ (le-leb _ _ ha) ∙ simp (lt-leb _ _ hg)
 
-        pub later-short : 8 * length s < next-place → laterOf P s n p ≡ refused (because Table.bits)
+        pub later-short : 8 * length s < next-place → laterCall P s n p ≡ refused (because Table.bits)
         later-short h = going ∙ unmet _ _ (lt-leb _ _ h)
 
-        pub later-over : 2 ^ 64 ≤ next-place → laterOf P s n p ≡ refused (because Table.bits)
+        pub later-over : 2 ^ 64 ≤ next-place → laterCall P s n p ≡ refused (because Table.bits)
         later-over h = going ∙ either (leb next-place (8 * length s)) refl
           where
             either : (t : Bool) → leb next-place (8 * length s) ≡ t
@@ -108,7 +107,7 @@ module _ (P : ℕ) (s : List ℕ) (n : ℕ) (p : Position) where
             either true e = met _ _ e ∙ unmet _ _ (le-ltb _ _ h)
             either false e = unmet _ _ e
 
-        pub later-value : next-place ≤ 8 * length s → next-place < 2 ^ 64 → laterOf P s n p ≡ ok (value next-value (position next-place (p .given + 1) (p .width) next-value))
+        pub later-value : next-place ≤ 8 * length s → next-place < 2 ^ 64 → laterCall P s n p ≡ ok (value next-value (position next-place (p .given + 1) (p .width) next-value))
         later-value h l = going ∙ met _ _ (le-leb _ _ h) ∙ met _ _ (lt-ltb _ _ l)
 
 -- ---- the call
@@ -118,11 +117,11 @@ module _ (P : ℕ) (s : List ℕ) (n : ℕ) (p : Position) where
   unfolding nextOf
   next-many h = unmet _ _ (lt-leb _ _ h)
 
-  pub next-first : n ≤ 2048 → p .given ≡ 0 → nextOf P s n p ≡ firstOf P s n
+  pub next-first : n ≤ 2048 → p .given ≡ 0 → nextOf P s n p ≡ firstCall P s n
   unfolding nextOf
   next-first h e = met _ _ (le-leb _ _ h) ∙ simp (eq-eqb _ _ e)
 
-  pub next-later : n ≤ 2048 → (p .given ≡ 0 → ⊥) → nextOf P s n p ≡ laterOf P s n p
+  pub next-later : n ≤ 2048 → (p .given ≡ 0 → ⊥) → nextOf P s n p ≡ laterCall P s n p
   unfolding nextOf
   next-later h e = met _ _ (le-leb _ _ h) ∙ simp (ne-eqb _ _ e)
 

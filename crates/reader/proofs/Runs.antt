@@ -26,8 +26,8 @@ use Rattle.column.specs.Read.{saidBy, endOf, closed, decodeOf, readOf}
 use Rattle.column.proofs.Decoding.{closed-bits, closed-fill, closed-good, decode-zero, decode-empty, decode-wide, decode-closed, read-many, read-decode, closed-ok}
 use Rattle.reader.specs.declared.Answer.{Answer}
 use Rattle.reader.specs.declared.Answer.the-variants.{Value, End, Refused}
-use Rattle.reader.specs.Next.{Turn, value, end, position, firstOf, laterOf, nextOf, answered}
-use Rattle.reader.specs.Run.{Run, follow, runOf, EndsAs}
+use Rattle.reader.specs.Next.{ValueOrEnd, value, end, position, firstCall, laterCall, nextOf, answerWith}
+use Rattle.reader.specs.Run.{Run, follow, runFrom, EndsAs, Runs}
 use Rattle.reader.proofs.Calls.{said-refused, said-value, first-none, first-empty, first-wide, first-short, first-value, later-end, later-short, later-value, next-many, next-first, next-later}
 
 -- ---- the end, judged by a call and by the whole read
@@ -48,20 +48,20 @@ judge s e = go (eqb (whole e) (length s)) refl (ltb (number s) (2 ^ e)) refl
 
 -- a call that judges the end gives no value, and ends as the read does
 module _ (s : List ℕ) (e : ℕ) (p : Position) (l : List ℕ) (go : Position → Run) where
-  ends-none : follow (answered p (closed s e (ok end))) go .got ≡ []
-  unfolding answered
+  ends-none : follow (answerWith p (closed s e (ok end))) go .got ≡ []
+  unfolding answerWith
   ends-none = by (judge s e)
     where
-      by : Judged s e → follow (answered p (closed s e (ok end))) go .got ≡ []
+      by : Judged s e → follow (answerWith p (closed s e (ok end))) go .got ≡ []
       by (good a b) = rw (closed-good s e (ok end) a b)
       by (bits a) = rw (closed-bits s e (ok end) a)
       by (fill a b) = rw (closed-fill s e (ok end) a b)
 
-  ends-as : EndsAs (closed s e (ok l)) (follow (answered p (closed s e (ok end))) go .last)
-  unfolding answered
+  ends-as : EndsAs (closed s e (ok l)) (follow (answerWith p (closed s e (ok end))) go .last)
+  unfolding answerWith
   ends-as = by (judge s e)
     where
-      by : Judged s e → EndsAs (closed s e (ok l)) (follow (answered p (closed s e (ok end))) go .last)
+      by : Judged s e → EndsAs (closed s e (ok l)) (follow (answerWith p (closed s e (ok end))) go .last)
       by (good a b) = rw (closed-good s e (ok end) a b, closed-good s e (ok l) a b) tt
       by (bits a) = rw (closed-bits s e (ok end) a, closed-bits s e (ok l) a) refl
       by (fill a b) = rw (closed-fill s e (ok end) a b, closed-fill s e (ok l) a b) refl
@@ -87,14 +87,14 @@ module _ (P : ℕ) (s : List ℕ) (n : ℕ) (hn : n ≤ 2048) (w : ℕ) (hw : w 
   one-more k at a q r e (all h g f) = rw e (all h (ap (λ (l : List ℕ). valueAt P (number s) w at a ∷ l) g) f)
   one-more k at a q r e (some j l g h m f) = rw e (some (suc j) (omega arith) (ap (λ (x : List ℕ). valueAt P (number s) w at a ∷ x) g) h m f)
 
-  pub goes : (k at g a : ℕ) → g + k ≡ n → 0 < g → at + (P + P) * k < 2 ^ 64 → at ≤ 8 * length s → Goes P s w k at a (runOf P s n (suc k) (position at g w a))
-  unfolding runOf values after answered
+  pub goes : (k at g a : ℕ) → g + k ≡ n → 0 < g → at + (P + P) * k < 2 ^ 64 → at ≤ 8 * length s → Goes P s w k at a (runFrom P s n (suc k) (position at g w a))
+  unfolding runFrom values after answerWith
   goes zero at g a e hg hb hl =
       let c : nextOf P s n (position at g w a) ≡ closed s at (ok end) =
       next-later P s n (position at g w a) hn (λ (z : g ≡ 0). omega arith) ∙ later-end P s n (position at g w a) hw hl (omega arith) in
       all hl
-      (rw c (ends-none s at (position at g w a) [] (runOf P s n 0)))
-      (λ l. rw c (ends-as s at (position at g w a) l (runOf P s n 0)))
+      (rw c (ends-none s at (position at g w a) [] (runFrom P s n 0)))
+      (λ l. rw c (ends-as s at (position at g w a) l (runFrom P s n 0)))
   goes (suc k) at g a e hg hb hl =
       let z : ℕ = sizeAt P (number s) w at in
       let m : (P + P) * suc k ≡ (P + P) * k + (P + P) = mul-suc (P + P) k in
@@ -105,37 +105,29 @@ module _ (P : ℕ) (s : List ℕ) (n : ℕ) (hn : n ≤ 2048) (w : ℕ) (hw : w 
       (λ (l : 8 * length s < at + sizeAt P (number s) w at). short-way l)
       (within (at + sizeAt P (number s) w at) (8 * length s))
     where
-      later : nextOf P s n (position at g w a) ≡ laterOf P s n (position at g w a)
+      later : nextOf P s n (position at g w a) ≡ laterCall P s n (position at g w a)
       later = next-later P s n (position at g w a) hn (λ (z : g ≡ 0). omega arith)
 
       fits : at + sizeAt P (number s) w at < 2 ^ 64
       fits = omega (arith, size-le P (number s) w at hw, mul-suc (P + P) k)
 
       value-way : at + sizeAt P (number s) w at ≤ 8 * length s
-          → Goes P s w k (at + sizeAt P (number s) w at) (valueAt P (number s) w at a) (runOf P s n (suc k) (position (at + sizeAt P (number s) w at) (g + 1) w (valueAt P (number s) w at a)))
-          → Goes P s w (suc k) at a (runOf P s n (suc (suc k)) (position at g w a))
+          → Goes P s w k (at + sizeAt P (number s) w at) (valueAt P (number s) w at a) (runFrom P s n (suc k) (position (at + sizeAt P (number s) w at) (g + 1) w (valueAt P (number s) w at a)))
+          → Goes P s w (suc k) at a (runFrom P s n (suc (suc k)) (position at g w a))
       value-way l r =
           let q = later ∙ later-value P s n (position at g w a) hw hl (omega arith) l fits in
           one-more k at a _ _ (rw q refl) r
 
-      short-way : 8 * length s < at + sizeAt P (number s) w at → Goes P s w (suc k) at a (runOf P s n (suc (suc k)) (position at g w a))
+      short-way : 8 * length s < at + sizeAt P (number s) w at → Goes P s w (suc k) at a (runFrom P s n (suc (suc k)) (position at g w a))
       short-way l =
           let q = later ∙ later-short P s n (position at g w a) hw hl (omega arith) l in
           some 0 (omega arith) (rw q refl) hl l (rw q refl)
 
 -- ---- from a fresh position
 
--- what the whole run is: it ends as the column read with room for n, by its constructor; it gives the values of that; they are in any case the
--- first of those that the entries say; and where fewer come than n, the next one is the first that ends past the bytes
-pub record Runs (P : ℕ) (s : List ℕ) (n : ℕ) (r : Run) : Type 0 where
-  pub ends : EndsAs (readOf P s n n) (r .last)
-  pub reads : (l : List ℕ) → readOf P s n n ≡ ok l → r .got ≡ l
-  pub says : r .got ≡ take (length (r .got)) (saidBy P s n)
-  pub lacks : (g : ℕ) → length (r .got) ≡ suc g → suc g < n → (endOf P s (suc g) ≤ 8 * length s) × (8 * length s < endOf P s (suc (suc g)))
-
 -- where the first call is refused as the column is
-refused-run : (P : ℕ) (s : List ℕ) (n : ℕ) (p : Position) (k : ℕ) → nextOf P s n p ≡ refused (because k) → readOf P s n n ≡ refused (because k) → Runs P s n (runOf P s n (suc n) p)
-unfolding runOf answered
+refused-run : (P : ℕ) (s : List ℕ) (n : ℕ) (p : Position) (k : ℕ) → nextOf P s n p ≡ refused (because k) → readOf P s n n ≡ refused (because k) → Runs P s n (runFrom P s n (suc n) p)
+unfolding runFrom answerWith
 refused-run P s n p k e h = record {
   ends = rw (e, h) refl;
   reads = λ l q. absurd (never (sym h ∙ q));
@@ -144,14 +136,14 @@ refused-run P s n p k e h = record {
 }
 
 -- no values to come
-empty-run : (P : ℕ) (s : List ℕ) (p : Position) → p .given ≡ 0 → Runs P s 0 (runOf P s 0 1 p)
-unfolding runOf
+empty-run : (P : ℕ) (s : List ℕ) (p : Position) → p .given ≡ 0 → Runs P s 0 (runFrom P s 0 1 p)
+unfolding runFrom
 empty-run P s p e =
     let c : nextOf P s 0 p ≡ closed s 0 (ok end) = next-first P s 0 p (omega arith) e ∙ first-none P s 0 refl in
     let d : readOf P s 0 0 ≡ closed s 0 (ok []) = read-decode P s 0 0 (omega arith) (omega arith) ∙ decode-zero P s 0 refl in
-    let g : runOf P s 0 1 p .got ≡ [] = rw c (ends-none s 0 p [] (runOf P s 0 0)) in
+    let g : runFrom P s 0 1 p .got ≡ [] = rw c (ends-none s 0 p [] (runFrom P s 0 0)) in
     record {
-      ends = rw (c, d) (ends-as s 0 p [] (runOf P s 0 0));
+      ends = rw (c, d) (ends-as s 0 p [] (runFrom P s 0 0));
       reads = λ l q. g ∙ ok-inj (closed-ok s 0 (ok []) l (sym d ∙ q) .2);
       says = rw g;
       lacks = λ k q h. absurd (omega arith);
@@ -165,17 +157,17 @@ module _ (P : ℕ) (s : List ℕ) (m : ℕ) (hn : suc m ≤ 2048) (hP : P ≤ 64
   less : suc m - 1 ≡ m
   less = omega arith
 
-  fresh : nextOf P s (suc m) p ≡ firstOf P s (suc m)
+  fresh : nextOf P s (suc m) p ≡ firstCall P s (suc m)
   fresh = next-first P s (suc m) p hn hp
 
   reading : readOf P s (suc m) (suc m) ≡ decodeOf P s (suc m)
   reading = read-decode P s (suc m) (suc m) hn (omega arith)
 
-  no-bytes : length s ≡ 0 → Runs P s (suc m) (runOf P s (suc m) (suc (suc m)) p)
+  no-bytes : length s ≡ 0 → Runs P s (suc m) (runFrom P s (suc m) (suc (suc m)) p)
   no-bytes l = refused-run P s (suc m) p Table.bits (fresh ∙ first-empty P s (suc m) h0 l) (reading ∙ decode-empty P s (suc m) h0 l)
 
   module _ (hs : length s ≡ 0 → ⊥) where
-    too-wide : P < getD s 0 0 → Runs P s (suc m) (runOf P s (suc m) (suc (suc m)) p)
+    too-wide : P < getD s 0 0 → Runs P s (suc m) (runFrom P s (suc m) (suc (suc m)) p)
     too-wide l = refused-run P s (suc m) p Table.wide (fresh ∙ first-wide P s (suc m) h0 hs l) (reading ∙ decode-wide P s (suc m) h0 hs l)
 
     module _ (hw : getD s 0 0 ≤ P) where
@@ -199,16 +191,16 @@ module _ (P : ℕ) (s : List ℕ) (m : ℕ) (hn : suc m ≤ 2048) (hP : P ≤ 64
       past-bytes : 8 * length s < after P (number s) (getD s 0 0) m (8 + P) → readOf P s (suc m) (suc m) ≡ refused (because Table.bits)
       past-bytes l = closing ∙ closed-bits s (after P (number s) (getD s 0 0) m (8 + P)) (ok (saidBy P s (suc m))) (λ z. omega arith)
 
-      first-lacks : 8 * length s < 8 + P → Runs P s (suc m) (runOf P s (suc m) (suc (suc m)) p)
+      first-lacks : 8 * length s < 8 + P → Runs P s (suc m) (runFrom P s (suc m) (suc (suc m)) p)
       first-lacks l =
           refused-run P s (suc m) p Table.bits (fresh ∙ first-short P s (suc m) h0 hs hw l) (past-bytes (omega (arith, after-le P (number s) (getD s 0 0) m (8 + P))))
 
       module _ (hl : 8 + P ≤ 8 * length s) where
         abbrev rest : Run
-        rest = runOf P s (suc m) (suc m) (position (8 + P) 1 (getD s 0 0) (field (number s) 8 P))
+        rest = runFrom P s (suc m) (suc m) (position (8 + P) 1 (getD s 0 0) (field (number s) 8 P))
 
-        opening : runOf P s (suc m) (suc (suc m)) p ≡ record { got = field (number s) 8 P ∷ rest .got; last = rest .last }
-        unfolding runOf answered
+        opening : runFrom P s (suc m) (suc (suc m)) p ≡ record { got = field (number s) 8 P ∷ rest .got; last = rest .last }
+        unfolding runFrom answerWith
         opening = let q = fresh ∙ first-value P s (suc m) h0 hs hw hl in rw q refl
 
         said : saidBy P s (suc m) ≡ field (number s) 8 P ∷ values P (number s) (getD s 0 0) m (8 + P) (field (number s) 8 P)
@@ -246,7 +238,7 @@ module _ (P : ℕ) (s : List ℕ) (m : ℕ) (hn : suc m ≤ 2048) (hP : P ≤ 64
                 let z : suc (suc k) - 1 ≡ suc j = omega arith in
                 (rw y a, rw z b)
 
-        begun : Runs P s (suc m) (runOf P s (suc m) (suc (suc m)) p)
+        begun : Runs P s (suc m) (runFrom P s (suc m) (suc (suc m)) p)
         begun =
             rw opening (gone (goes P s (suc m) hn (getD s 0 0) hw m (8 + P) 1 (field (number s) 8 P) (omega arith) (omega arith) room hl))
           where
@@ -256,20 +248,20 @@ module _ (P : ℕ) (s : List ℕ) (m : ℕ) (hn : suc m ≤ 2048) (hP : P ≤ 64
             room : 8 + P + (P + P) * m < 2 ^ 64
             room = omega (arith, mul-le-mul-right m doubled)
 
-pub runs : (P : ℕ) (s : List ℕ) (n : ℕ) (p : Position) → P ≤ 64 → p .given ≡ 0 → Runs P s n (runOf P s n (suc n) p)
+pub runs : (P : ℕ) (s : List ℕ) (n : ℕ) (p : Position) → P ≤ 64 → p .given ≡ 0 → Runs P s n (runFrom P s n (suc n) p)
 runs P s n p hP hp = ⊎-elim (few n) many (within n 2048)
   where
-    many : 2048 < n → Runs P s n (runOf P s n (suc n) p)
+    many : 2048 < n → Runs P s n (runFrom P s n (suc n) p)
     many l = refused-run P s n p Table.many (next-many P s n p l) (read-many P s n n l)
 
-    few : (n : ℕ) → n ≤ 2048 → Runs P s n (runOf P s n (suc n) p)
+    few : (n : ℕ) → n ≤ 2048 → Runs P s n (runFrom P s n (suc n) p)
     few zero h = empty-run P s p hp
     few (suc m) h = ⊎-elim width none (within 1 (length s))
       where
-        none : length s < 1 → Runs P s (suc m) (runOf P s (suc m) (suc (suc m)) p)
+        none : length s < 1 → Runs P s (suc m) (runFrom P s (suc m) (suc (suc m)) p)
         none l = no-bytes P s m h hP p hp (omega arith)
 
-        width : 1 ≤ length s → Runs P s (suc m) (runOf P s (suc m) (suc (suc m)) p)
+        width : 1 ≤ length s → Runs P s (suc m) (runFrom P s (suc m) (suc (suc m)) p)
         width l =
             let hs : length s ≡ 0 → ⊥ = λ (q : length s ≡ 0). omega arith in
             ⊎-elim (λ (a : getD s 0 0 ≤ P). ⊎-elim (λ (b : 8 + P ≤ 8 * length s). begun P s m h hP p hp hs a b) (λ (b : 8 * length s < 8 + P). first-lacks P s m h hP p hp hs a b) (within (8 + P) (8 * length s)))

@@ -8,7 +8,7 @@ ghost use Rattle.le.specs.Number.{number};
 ghost use Rattle.entry.specs.Step.{marker};
 ghost use Rattle.entry.specs.Entry.{sizeAt};
 ghost use Rattle.column.specs.Read.{closed};
-ghost use Rattle.reader.specs.Next.{end, firstOf, laterOf, nextOf, answered};
+ghost use Rattle.reader.specs.Next.{end, firstCall, laterCall, nextOf, answerWith};
 use answer::Refusal;
 use column::Position;
 
@@ -35,7 +35,7 @@ fn whole_bytes(at: usize) -> usize
 
 // The rules of the end, where the entries end at a place.
 fn end_at(s: &[u8], at: usize, p: Position) -> Answer
-    ensures { λ r. ⌜ r ≡ answered p (closed (now (s .entry)) at (ok end)) ⌝ }
+    ensures { λ r. ⌜ r ≡ answerWith p (closed (now (s .entry)) at (ok end)) ⌝ }
 {
     if whole_bytes(at) != s.len() {
         return refused(answer::table::BITS, p);
@@ -48,7 +48,7 @@ fn end_at(s: &[u8], at: usize, p: Position) -> Answer
 
 // With none given: from the first bit.
 fn first(s: &[u8], n: usize, p: Position) -> Answer
-    ensures { λ r. ⌜ r ≡ answered p (firstOf 64 (now (s .entry)) n) ⌝ }
+    ensures { λ r. ⌜ r ≡ answerWith p (firstCall 64 (now (s .entry)) n) ⌝ }
 {
     if n == 0 {
         return end_at(s, 0, p);
@@ -95,7 +95,7 @@ fn runs_over(s: &[u8], at: usize, w: u64, m: u64) -> bool
 // With some given: the entry at the position's place, or the rules of the end.
 fn later(s: &[u8], n: usize, p: Position) -> Answer
     requires { ⌜ n ≤ 2048 ⌝ }
-    ensures { λ r. ⌜ r ≡ answered p (laterOf 64 (now (s .entry)) n p) ⌝ }
+    ensures { λ r. ⌜ r ≡ answerWith p (laterCall 64 (now (s .entry)) n p) ⌝ }
 {
     let at = p.at;
     let w = p.width;
@@ -131,7 +131,7 @@ fn later(s: &[u8], n: usize, p: Position) -> Answer
 
 // One value of the column s of n values, or the end, or a refusal. Any position is taken.
 pub fn next(s: &[u8], n: usize, p: Position) -> Answer
-    ensures { λ r. ⌜ r ≡ answered p (nextOf 64 (now (s .entry)) n p) ⌝ }
+    ensures { λ r. ⌜ r ≡ answerWith p (nextOf 64 (now (s .entry)) n p) ⌝ }
 {
     if 2048 < n {
         return refused(answer::table::MANY, p);

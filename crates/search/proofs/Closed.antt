@@ -14,7 +14,7 @@ use Rattle.extent.specs.Boxes.{Bounds, patterns, sameBox, boxOf}
 use Rattle.query.specs.declared.ask.Ask.{Ask}
 use Rattle.query.specs.Ask.{hit, opens}
 use Rattle.query.proofs.Asking.{closed-no-hit, hit-none, opens-everything}
-use Rattle.shape.specs.Outline.{Shape, verticesOf, outlinesOf}
+use Rattle.shape.specs.Outline.{Shape, vertexCount, outlinesOf}
 use Rattle.shape.specs.Rules.{boxHolds}
 use Rattle.shape.proofs.OnlyIf.{decided}
 use Rattle.frame.specs.declared.head.Head.{Head}
@@ -31,7 +31,7 @@ unfolding placesOf outlinesOf
 none-hit a xs ys f [] cs lens j n = refl
 none-hit a xs ys f (t ∷ ts) [] lens j n = refl
 none-hit a xs ys f (t ∷ ts) (c ∷ cs) lens j n =
-    let m = verticesOf c lens in
+    let m = vertexCount c lens in
     ap (λ (b : Bool). cond b (n ∷ placesOf a (suc n) (outlinesOf ts cs (drop c lens) (drop m (drop j xs)) (drop m (drop j ys)))) (placesOf a (suc n) (outlinesOf ts cs (drop c lens) (drop m (drop j xs)) (drop m (drop j ys))))) (f j m)
     ∙ (λ i. placesOf a (suc n) (outlinesOf ts cs (drop c lens) (drop-drop m j xs i) (drop-drop m j ys i)))
     ∙ none-hit a xs ys f ts cs (drop c lens) (j + m) (suc n)

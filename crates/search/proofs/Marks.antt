@@ -8,9 +8,9 @@ use native.Mathlib.Omega.{arith}
 use lib.Bits.{bitOr}
 use lib.ListN.{length, getD, set}
 use lib.Pow.{pow-add, pow-mono, shr-lt}
-use Rattle.le.specs.Number.{number}
+use Rattle.le.specs.Number.{number, Bytes}
 use Rattle.le.proofs.Fields.{lo-law}
-use Rattle.le.proofs.Numbers.{Bytes, byte-at}
+use Rattle.le.proofs.Numbers.{byte-at}
 use Rattle.search.specs.Flags.{onlyIf, Adds}
 
 -- a byte that grows by x

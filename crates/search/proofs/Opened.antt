@@ -16,7 +16,7 @@ use Rattle.extent.specs.Boxes.{patterns}
 use Rattle.query.specs.declared.ask.Ask.{Ask}
 use Rattle.query.specs.Ask.{opens}
 use Rattle.types.specs.Parts.{partsHold}
-use Rattle.shape.specs.Outline.{Outline, outlinesOf, shapesOf}
+use Rattle.shape.specs.Outline.{Outline, outlinesOf, registered}
 use Rattle.frame.specs.declared.head.Head.{Head}
 use Rattle.frame.specs.Frame.{Page}
 use Rattle.page.specs.Contents.{registersOf, typesOf, countsOf, lensOf, contentsOf}
@@ -64,7 +64,7 @@ module _ {o : Out (List ℕ)} {n to : ℕ} {d e : List ℕ} (r : Counted) (m : M
 
 -- those of its shapes are those of their outlines
 pub shapes-hits : (h : Head) (b xs ys : List ℕ) → partsHold (typesOf h b) (countsOf h b) (lensOf h b) (h .v) ≡ true → (a : Ask) (n : ℕ)
-    → hitsFrom a n (shapesOf (registersOf h b) (outlinesOf (typesOf h b) (countsOf h b) (lensOf h b) xs ys))
+    → hitsFrom a n (registered (registersOf h b) (outlinesOf (typesOf h b) (countsOf h b) (lensOf h b) xs ys))
     ≡ placesOf a n (outlinesOf (typesOf h b) (countsOf h b) (lensOf h b) xs ys)
 unfolding hitsFrom
 shapes-hits h b xs ys q a n = ap (placesOf a n) (shapes-outlines h b xs ys q)
@@ -110,7 +110,7 @@ module _ (h : Head) (b counts lens xs ys : List ℕ) (y : Loaded h b counts lens
       → Adds d e n (n + length types) (bitsOf (placesOf a n (outlinesOf types counts lens xs ys)))
       → Meets (on (inPage k (contentsOf h b)) (λ here. ok (hitsFrom a n here))) n (n + h .g) (Hits r) d e
   contents-met a k n {d = d} {e = e} r c f =
-      let ss = shapesOf (registersOf h b) (outlinesOf (typesOf h b) counts lens xs ys) in
+      let ss = registered (registersOf h b) (outlinesOf (typesOf h b) counts lens xs ys) in
       let z : hitsFrom a n ss ≡ placesOf a n (outlinesOf types counts lens xs ys) = rw (t, y .counts-are, y .lens-are) (shapes-hits h b xs ys (rw (← y .counts-are, ← y .lens-are) (y .parts)) a n) in
       let o : on (inPage k (contentsOf h b)) (λ here. ok (hitsFrom a n here)) ≡ ok (placesOf a n (outlinesOf types counts lens xs ys)) = on-value (inPage k (contentsOf h b)) _ ss (in-page-value k ss (y .shapes)) ∙ ap ok z in
       meets-ok r (placesOf a n (outlinesOf types counts lens xs ys)) o c

@@ -7,8 +7,9 @@ use lib.IntN.{ℤ}
 use lib.ListN.{length, take, drop, length-take, length-drop}
 use mir.Syntax.{w64}
 use mir.Val.{toZ, ofZ}
+use Rattle.answer.proofs.Alls.{all-part}
+use Rattle.grid.specs.Grid.{onGrid}
 use Rattle.grid.specs.Turn.{turnOf}
-use Rattle.grid.proofs.OnGrid.{all-on-grid-part}
 use Rattle.grid.proofs.Sizes.{back-64}
 use Rattle.grid.proofs.Turns.{turn-64}
 use Rattle.shape.specs.Ready.{Gridded}
@@ -25,8 +26,8 @@ pub gridded-part : (at n : ℕ) (xs ys : List ℕ) → Gridded xs ys → Gridded
 gridded-part at n xs ys g = record {
   same = same-part at n xs ys (g .same);
   few = omega (arith, length-part at n xs, g .few);
-  grid-x = all-on-grid-part at n xs (g .grid-x);
-  grid-y = all-on-grid-part at n ys (g .grid-y);
+  grid-x = all-part onGrid at n xs (g .grid-x);
+  grid-y = all-part onGrid at n ys (g .grid-y);
 }
 
 -- and their turn fits, so that it is handed on as it is

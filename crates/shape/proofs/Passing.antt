@@ -10,7 +10,7 @@ use Rattle.answer.specs.Table as table
 use Rattle.answer.specs.Outcome.{ok}
 use Rattle.answer.proofs.Rules.{rule-ok}
 use Rattle.answer.proofs.Both.{both-l, both-r}
-use Rattle.types.specs.Every.{allOf}
+use Rattle.answer.specs.Every.{allOf}
 use Rattle.extent.specs.Rank.{allFinite}
 use Rattle.extent.specs.Boxes.{Bounds, boxOf, sameBox}
 use Rattle.shape.specs.Outline.{Outline}

@@ -7,8 +7,7 @@ use native.Mathlib.Omega.{arith}
 use borrow.Author.Tests.{eq-eqb, ne-eqb}
 use lib.Dec.{eqb}
 use lib.ListN.{length, getD}
-use Rattle.answer.proofs.Both.{both}
-use Rattle.types.proofs.Both.{first-fails, then}
+use Rattle.answer.proofs.Both.{both, first-fails, then}
 use Rattle.shape.specs.Outline.{partWith}
 use Rattle.shape.specs.Rules.{endsMeet, closedRing}
 

@@ -6,20 +6,20 @@ use Prim.Native.Nat.{ℕ, _-_, _≤_, _<_}
 use native.Mathlib.Omega.{arith}
 use lib.IntN.{ℤ, pos, negsuc}
 use lib.ListN.{length, getD, take, drop, length-drop}
-use Rattle.types.specs.Every.{allOf}
-use Rattle.types.proofs.Both.{first-fails, then}
-use Rattle.types.proofs.Alls.{all-none, all-cons}
+use Rattle.answer.specs.Every.{allOf}
+use Rattle.answer.proofs.Both.{first-fails, then}
+use Rattle.answer.proofs.Alls.{all-none, all-cons, all-drop}
 use Rattle.types.proofs.Sums.{total-cons}
 use Rattle.types.proofs.Agreeing.{part-to-end}
+use Rattle.grid.specs.Grid.{onGrid}
 use Rattle.grid.specs.Turn.{turnOf, clockwise, zeroTurn}
-use Rattle.grid.proofs.OnGrid.{all-on-grid-drop}
 use Rattle.shape.specs.Outline.{Part, partWith, partsOf}
-use Rattle.shape.specs.Rules.{ringTurn, turned, firstClockwise, ringsTurned}
+use Rattle.shape.specs.Rules.{ringTurn, turnNotZero, firstClockwise, ringsTurned}
 use Rattle.shape.specs.Ready.{Cut, Gridded}
 
 -- a clockwise turn is not zero
-pub clockwise-turned : (p : Part) → clockwise (ringTurn p) ≡ true → turned p ≡ true
-unfolding turned clockwise zeroTurn
+pub clockwise-turned : (p : Part) → clockwise (ringTurn p) ≡ true → turnNotZero p ≡ true
+unfolding turnNotZero clockwise zeroTurn
 clockwise-turned p e = go (ringTurn p) e
   where
     go : (z : ℤ) → clockwise z ≡ true → not (zeroTurn z) ≡ true
@@ -30,16 +30,16 @@ clockwise-turned p e = go (ringTurn p) e
 
 pub rings-none : true ≡ ringsTurned []
 unfolding ringsTurned firstClockwise
-rings-none = sym (all-none turned)
+rings-none = sym (all-none turnNotZero)
 
 module _ (p : Part) (ps : List Part) where
-  rings-first : clockwise (ringTurn p) ≡ true → ringsTurned (p ∷ ps) ≡ allOf turned ps
+  rings-first : clockwise (ringTurn p) ≡ true → ringsTurned (p ∷ ps) ≡ allOf turnNotZero ps
   unfolding ringsTurned firstClockwise
-  rings-first e = sym (then (clockwise (ringTurn p)) (allOf turned (p ∷ ps)) (allOf turned ps) e (then (turned p) (allOf turned ps) (allOf turned ps) (clockwise-turned p e) refl ∙ sym (all-cons turned p ps)))
+  rings-first e = sym (then (clockwise (ringTurn p)) (allOf turnNotZero (p ∷ ps)) (allOf turnNotZero ps) e (then (turnNotZero p) (allOf turnNotZero ps) (allOf turnNotZero ps) (clockwise-turned p e) refl ∙ sym (all-cons turnNotZero p ps)))
 
   rings-wrong : clockwise (ringTurn p) ≡ false → false ≡ ringsTurned (p ∷ ps)
   unfolding ringsTurned firstClockwise
-  rings-wrong e = first-fails (clockwise (ringTurn p)) (allOf turned (p ∷ ps)) e
+  rings-wrong e = first-fails (clockwise (ringTurn p)) (allOf turnNotZero (p ∷ ps)) e
 
 -- ---- by the part lengths and the vertices
 
@@ -71,8 +71,8 @@ gridded-rest n xs ys g =
     (subst (λ (l : List ℕ). Gridded (drop n xs) l) (sym (part-to-end n ys)) (record {
       same = length-drop n ys ∙ ap (λ (k : ℕ). k - n) (g .same) ∙ sym (length-drop n xs);
       few = omega (arith, g .few, length-drop n xs);
-      grid-x = all-on-grid-drop n xs (g .grid-x);
-      grid-y = all-on-grid-drop n ys (g .grid-y);
+      grid-x = all-drop onGrid n xs (g .grid-x);
+      grid-y = all-drop onGrid n ys (g .grid-y);
     }))
 
 module _ (lens xs ys : List ℕ) (h : 0 < length lens) where
@@ -88,7 +88,7 @@ module _ (lens xs ys : List ℕ) (h : 0 < length lens) where
 
   -- the first is clockwise, and the others decide
   pub turned-rest : (r : Bool) → clockwise (turnOf (take n xs) (take n ys)) ≡ true
-      → r ≡ allOf turned (partsOf (take (length lens - 1) (drop 1 lens)) (take (length xs - n) (drop n xs)) (take (length ys - n) (drop n ys))) → r ≡ ringsTurned (partsOf lens xs ys)
+      → r ≡ allOf turnNotZero (partsOf (take (length lens - 1) (drop 1 lens)) (take (length xs - n) (drop n xs)) (take (length ys - n) (drop n ys))) → r ≡ ringsTurned (partsOf lens xs ys)
   unfolding ringTurn
   turned-rest r t e = e ∙ sym (rings-first (partWith (take n xs) (take n ys)) _ t) ∙ sym (ap ringsTurned cons)
 

@@ -10,11 +10,11 @@ use lib.ListN.{length, getD, List·getD-eq-default, take, drop, length-take, len
 use Rattle.answer.specs.Table as table
 use Rattle.answer.specs.Rule.{rule}
 use Rattle.answer.proofs.Both.{both, both-l, both-r}
-use Rattle.types.specs.Every.{allOf}
-use Rattle.types.specs.Types.{empty, rows, rowOf}
+use Rattle.answer.specs.Every.{allOf}
+use Rattle.types.specs.Types.{empty, typeRows, typeRow}
 use Rattle.shape.specs.declared.which.Which.{Which}
 use Rattle.shape.specs.declared.which.Which.the-variants.{Ring, Grid, Turn}
-use Rattle.shape.specs.Outline.{Outline, verticesOf, outlineWith, outlinesOf}
+use Rattle.shape.specs.Outline.{Outline, vertexCount, outlineWith, outlinesOf}
 use Rattle.shape.specs.Rules.{ringsClosed, ringRule, onGridShape, gridRule, turnsHold, turnRule}
 use Rattle.shape.specs.Which.{testOf, readyFor, spares}
 
@@ -57,7 +57,7 @@ unfolding outlinesOf allOf readyFor
 ready-turns [] cs lens xs ys h e = refl
 ready-turns (t ∷ ts) [] lens xs ys h e = refl
 ready-turns (t ∷ ts) (c ∷ cs) lens xs ys h e =
-    let n = verticesOf c lens in
+    let n = vertexCount c lens in
     let o = outlineWith t (take c lens) (take n xs) (take n ys) in
     let os = outlinesOf ts cs (drop c lens) (drop n xs) (drop n ys) in
     let few = le-leb (length (take n xs)) 2048 (omega (arith, length-take n xs)) in
@@ -66,7 +66,7 @@ ready-turns (t ∷ ts) (c ∷ cs) lens xs ys h e =
 
 -- ---- types of which a rule says nothing
 
-pub spares-ring : (w : Which) (t : ℕ) → w ≡ Ring → spares w t ≡ not (rowOf t .closed)
+pub spares-ring : (w : Which) (t : ℕ) → w ≡ Ring → spares w t ≡ not (typeRow t .closed)
 unfolding spares
 spares-ring w t e = ap (λ (v : Which). spares v t) e
 
@@ -79,9 +79,9 @@ unfolding spares
 spares-turn w t e = ap (λ (v : Which). spares v t) e
 
 -- a type over 6 has no row, and none that is closed
-pub open-over : (t : ℕ) → 6 < t → true ≡ not (rowOf t .closed)
-unfolding rowOf
-open-over t h = let e : getD rows t empty ≡ empty = List·getD-eq-default rows empty h in rw e
+pub open-over : (t : ℕ) → 6 < t → true ≡ not (typeRow t .closed)
+unfolding typeRow
+open-over t h = let e : getD typeRows t empty ≡ empty = List·getD-eq-default typeRows empty h in rw e
 
 -- a shape of such a type passes
 pub spared : (w : Which) (o : Outline) → spares w (o .kind) ≡ true → testOf w o ≡ true
@@ -96,7 +96,7 @@ unfolding outlinesOf allOf
 all-spared w [] cs lens xs ys e = refl
 all-spared w (t ∷ ts) [] lens xs ys e = refl
 all-spared w (t ∷ ts) (c ∷ cs) lens xs ys e =
-    let n = verticesOf c lens in
+    let n = vertexCount c lens in
     let o = outlineWith t (take c lens) (take n xs) (take n ys) in
     both
     (spared w o (both-l (spares w t) (allOf (spares w) ts) e))

@@ -10,13 +10,13 @@ use Rattle.answer.specs.Table as table
 use Rattle.answer.specs.Refusal.{because}
 use Rattle.answer.specs.Outcome.{refused, ok, need}
 use Rattle.answer.specs.Rule.{rule}
-use Rattle.types.specs.Every.{allOf}
-use Rattle.types.specs.Types.{rowOf}
+use Rattle.answer.specs.Every.{allOf}
+use Rattle.types.specs.Types.{typeRow}
 use Rattle.types.specs.Parts.{total}
-use Rattle.grid.specs.Grid.{onGrid, wholeOf, allOnGrid}
+use Rattle.grid.specs.Grid.{onGrid, wholeOf}
 use Rattle.grid.specs.Turn.{turnOf, clockwise, zeroTurn}
 use Rattle.shape.specs.Outline.{Outline, outlineWith, partWith, outlinesOf, partsOf}
-use Rattle.shape.specs.Rules.{endsMeet, closedRing, ringsClosed, ringRule, onGridShape, gridRule, ringTurn, turned, firstClockwise, ringsTurned, turnsHold, turnRule}
+use Rattle.shape.specs.Rules.{endsMeet, closedRing, ringsClosed, ringRule, onGridShape, gridRule, ringTurn, turnNotZero, firstClockwise, ringsTurned, turnsHold, turnRule}
 
 -- ---- patterns: the exponent's field at 2 ^ 52, then the digits
 
@@ -62,19 +62,19 @@ unfolding outlinesOf total
 page-outline = refl
 
 pub page-closed : ringRule (page across along) ≡ ok tt
-unfolding outlinesOf total partsOf ringRule ringsClosed rowOf allOf closedRing endsMeet rule need
+unfolding outlinesOf total partsOf ringRule ringsClosed typeRow allOf closedRing endsMeet rule need
 page-closed = refl
 
 pub page-on-grid : gridRule (page across along) ≡ ok tt
-unfolding outlinesOf total gridRule onGridShape allOf allOnGrid onGrid ofBits ofFields rule need
+unfolding outlinesOf total gridRule onGridShape allOf onGrid ofBits ofFields rule need
 page-on-grid = refl
 
 pub page-turns : turnRule (page across along) ≡ ok tt
-unfolding outlinesOf total partsOf turnRule turnsHold ringsTurned firstClockwise turned ringTurn allOf turnOf wholeOf ofBits ofFields clockwise zeroTurn rule need
+unfolding outlinesOf total partsOf turnRule turnsHold ringsTurned firstClockwise turnNotZero ringTurn allOf turnOf wholeOf ofBits ofFields clockwise zeroTurn rule need
 page-turns = refl
 
 pub page-reversed : turnRule (page along across) ≡ refused (because table.turn)
-unfolding outlinesOf total partsOf turnRule turnsHold ringsTurned firstClockwise turned ringTurn allOf turnOf wholeOf ofBits ofFields clockwise zeroTurn rule need
+unfolding outlinesOf total partsOf turnRule turnsHold ringsTurned firstClockwise turnNotZero ringTurn allOf turnOf wholeOf ofBits ofFields clockwise zeroTurn rule need
 page-reversed = refl
 
 -- ---- the edge of the grid
@@ -83,13 +83,13 @@ abbrev edge : ℕ → List ℕ
 edge x = 0 ∷ 0 ∷ x ∷ x ∷ 0 ∷ []
 
 pub grid-most : gridRule (page (edge most) along) ≡ ok tt
-unfolding outlinesOf total gridRule onGridShape allOf allOnGrid onGrid ofBits ofFields rule need
+unfolding outlinesOf total gridRule onGridShape allOf onGrid ofBits ofFields rule need
 grid-most = refl
 
 pub grid-past : gridRule (page (edge past) along) ≡ refused (because table.grid)
-unfolding outlinesOf total gridRule onGridShape allOf allOnGrid onGrid ofBits ofFields rule need
+unfolding outlinesOf total gridRule onGridShape allOf onGrid ofBits ofFields rule need
 grid-past = refl
 
 pub grid-half : gridRule (page along (edge half)) ≡ refused (because table.grid)
-unfolding outlinesOf total gridRule onGridShape allOf allOnGrid onGrid ofBits ofFields rule need
+unfolding outlinesOf total gridRule onGridShape allOf onGrid ofBits ofFields rule need
 grid-half = refl

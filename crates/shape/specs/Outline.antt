@@ -22,31 +22,33 @@ pub record Part : Type 0 where
   pub xs : List ℕ
   pub ys : List ℕ
 
+-- an outline, by the four of them
 abbrev pub outlineWith : ℕ → List ℕ → List ℕ → List ℕ → Outline
 outlineWith kind lens xs ys = record { kind = kind; lens = lens; xs = xs; ys = ys }
 
+-- a part, by its x and its y
 abbrev pub partWith : List ℕ → List ℕ → Part
 partWith xs ys = record { xs = xs; ys = ys }
 
--- the vertices of the first c parts
-abbrev pub verticesOf : ℕ → List ℕ → ℕ
-verticesOf c lens = total (take c lens)
+-- how many vertices the first c parts have
+abbrev pub vertexCount : ℕ → List ℕ → ℕ
+vertexCount c lens = total (take c lens)
 
 -- by type, part count, part lengths, x and y: the first c part lengths, and as many vertices as they sum up to, are the first shape's
 unfoldable pub outlinesOf : List ℕ → List ℕ → List ℕ → List ℕ → List ℕ → List Outline
 outlinesOf [] cs lens xs ys = []
 outlinesOf (t ∷ ts) [] lens xs ys = []
 outlinesOf (t ∷ ts) (c ∷ cs) lens xs ys =
-    outlineWith t (take c lens) (take (verticesOf c lens) xs) (take (verticesOf c lens) ys)
-    ∷ outlinesOf ts cs (drop c lens) (drop (verticesOf c lens) xs) (drop (verticesOf c lens) ys)
+    outlineWith t (take c lens) (take (vertexCount c lens) xs) (take (vertexCount c lens) ys)
+    ∷ outlinesOf ts cs (drop c lens) (drop (vertexCount c lens) xs) (drop (vertexCount c lens) ys)
 
 -- by part length, x and y: as many vertices as the first length says are the first part's
 unfoldable pub partsOf : List ℕ → List ℕ → List ℕ → List Part
 partsOf [] xs ys = []
 partsOf (n ∷ ns) xs ys = partWith (take n xs) (take n ys) ∷ partsOf ns (drop n xs) (drop n ys)
 
--- each with its register
-unfoldable pub shapesOf : List ℕ → List Outline → List Shape
-shapesOf [] os = []
-shapesOf (r ∷ rs) [] = []
-shapesOf (r ∷ rs) (o ∷ os) = record { register = r; outline = o } ∷ shapesOf rs os
+-- outlines, each with its register
+unfoldable pub registered : List ℕ → List Outline → List Shape
+registered [] os = []
+registered (r ∷ rs) [] = []
+registered (r ∷ rs) (o ∷ os) = record { register = r; outline = o } ∷ registered rs os

@@ -1,7 +1,7 @@
 -- The polygons of a MultiPolygon: each clockwise ring opens a new polygon, and the others are its holes. Assumes nothing.
 use mathlib.Core.Bool.{Bool, true, false, _&&_, not}
 use mathlib.Core.List.{List, [], _∷_, _++_}
-use Rattle.types.specs.Every.{allOf}
+use Rattle.answer.specs.Every.{allOf}
 use Rattle.grid.specs.Turn.{clockwise}
 use Rattle.shape.specs.Outline.{Part}
 use Rattle.shape.specs.Rules.{ringTurn}
@@ -12,8 +12,8 @@ pub record Polygon : Type 0 where
   pub holes : List Part
 
 -- whether a ring opens a new polygon
-unfoldable pub opens : Part → Bool
-opens p = clockwise (ringTurn p)
+unfoldable pub opensPolygon : Part → Bool
+opensPolygon p = clockwise (ringTurn p)
 
 -- ---- from the last ring to the first
 
@@ -27,9 +27,10 @@ abbrev pub placed : Bool → Part → Grouped → Grouped
 placed true p g = record { before = []; polygons = record { shell = p; holes = g .before } ∷ g .polygons }
 placed false p g = record { before = p ∷ g .before; polygons = g .polygons }
 
+-- the rings of a shape, grouped from the last one on
 unfoldable pub grouped : List Part → Grouped
 grouped [] = record { before = []; polygons = [] }
-grouped (p ∷ ps) = placed (opens p) p (grouped ps)
+grouped (p ∷ ps) = placed (opensPolygon p) p (grouped ps)
 
 -- the polygons of a MultiPolygon's rings
 unfoldable pub polygonsOf : List Part → List Polygon
@@ -44,8 +45,8 @@ ringsOf (q ∷ qs) = q .shell ∷ q .holes ++ ringsOf qs
 
 -- a ring that opens no polygon
 unfoldable pub isHole : Part → Bool
-isHole p = not (opens p)
+isHole p = not (opensPolygon p)
 
 -- a polygon that its shell opens, and none of its holes
 unfoldable pub wellMade : Polygon → Bool
-wellMade q = opens (q .shell) && allOf isHole (q .holes)
+wellMade q = opensPolygon (q .shell) && allOf isHole (q .holes)

@@ -1,4 +1,4 @@
--- What a rule of one shape counts on, since the rules before it passed. Assumes nothing.
+-- What a rule of one shape counts on, since the rules before it passed: for inner walks; no service speaks of it. Assumes nothing.
 use Prim.Native.Nat.{ℕ, _≤_}
 use mathlib.Core.Path.{_≡_}
 use mathlib.Core.Bool.{true}

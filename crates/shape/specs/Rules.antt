@@ -8,8 +8,8 @@ use lib.ListN.{length, getD}
 use Rattle.answer.specs.Table as table
 use Rattle.answer.specs.Outcome.{Out}
 use Rattle.answer.specs.Rule.{rule}
-use Rattle.types.specs.Every.{allOf}
-use Rattle.types.specs.Types.{rowOf}
+use Rattle.answer.specs.Every.{allOf}
+use Rattle.types.specs.Types.{typeRow}
 use Rattle.extent.specs.Rank.{allFinite}
 use Rattle.extent.specs.Boxes.{Bounds, boxOf, sameBox}
 use Rattle.grid.specs.Grid.{allOnGrid}
@@ -22,6 +22,7 @@ ownParts o = partsOf (o .lens) (o .xs) (o .ys)
 
 -- ---- 12: all coordinates are finite
 
+-- 12, by the x and the y of the page
 unfoldable pub finiteRule : List ℕ → List ℕ → Out (Unit {0})
 finiteRule xs ys = rule (allFinite xs && allFinite ys) table.finite
 
@@ -37,21 +38,25 @@ closedRing p = endsMeet (p .xs) && endsMeet (p .ys)
 
 -- if the type's row is closed, all parts are
 unfoldable pub ringsClosed : Outline → Bool
-ringsClosed o = not (rowOf (o .kind) .closed) || allOf closedRing (ownParts o)
+ringsClosed o = not (typeRow (o .kind) .closed) || allOf closedRing (ownParts o)
 
+-- 13, over the shapes of the page
 unfoldable pub ringRule : List Outline → Out (Unit {0})
 ringRule os = rule (allOf ringsClosed os) table.ring
 
 -- ---- MultiPolygon only
 
+-- whether a shape is one: type 6
 abbrev pub isMultiPolygon : Outline → Bool
 isMultiPolygon o = eqb (o .kind) 6
 
 -- ---- 14: every coordinate is on grid
 
+-- if the shape is a MultiPolygon, each x and each y is on grid
 unfoldable pub onGridShape : Outline → Bool
 onGridShape o = not (isMultiPolygon o) || (allOnGrid (o .xs) && allOnGrid (o .ys))
 
+-- 14, over the shapes of the page
 unfoldable pub gridRule : List Outline → Out (Unit {0})
 gridRule os = rule (allOf onGridShape os) table.grid
 
@@ -61,28 +66,33 @@ gridRule os = rule (allOf onGridShape os) table.grid
 unfoldable pub ringTurn : Part → ℤ
 ringTurn p = turnOf (p .xs) (p .ys)
 
--- it is not zero
-unfoldable pub turned : Part → Bool
-turned p = not (zeroTurn (ringTurn p))
+-- a ring's turn is not zero
+unfoldable pub turnNotZero : Part → Bool
+turnNotZero p = not (zeroTurn (ringTurn p))
 
--- the first ring's is negative
+-- the first ring is clockwise
 unfoldable pub firstClockwise : List Part → Bool
 firstClockwise [] = true
 firstClockwise (p ∷ ps) = clockwise (ringTurn p)
 
+-- the first ring of a shape is clockwise, and no ring's turn is zero
 unfoldable pub ringsTurned : List Part → Bool
-ringsTurned ps = firstClockwise ps && allOf turned ps
+ringsTurned ps = firstClockwise ps && allOf turnNotZero ps
 
+-- if the shape is a MultiPolygon, its rings turn so
 unfoldable pub turnsHold : Outline → Bool
 turnsHold o = not (isMultiPolygon o) || ringsTurned (ownParts o)
 
+-- 15, over the shapes of the page
 unfoldable pub turnRule : List Outline → Out (Unit {0})
 turnRule os = rule (allOf turnsHold os) table.turn
 
 -- ---- 16: the page's box is in value that of its vertices, if it has any
 
+-- the box is in value that of the vertices; with no vertex there is nothing to compare
 unfoldable pub boxHolds : Bounds → List ℕ → List ℕ → Bool
 boxHolds p xs ys = not (ltb 0 (length xs)) || sameBox p (boxOf xs ys)
 
+-- 16, by the page's box and its vertices
 unfoldable pub boxRule : Bounds → List ℕ → List ℕ → Out (Unit {0})
 boxRule p xs ys = rule (boxHolds p xs ys) table.boxValue

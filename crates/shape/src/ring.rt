@@ -2,7 +2,7 @@
 ghost use mathlib.Core.Path.{_≡_};
 ghost use Prim.Native.Nat.{_≤_};
 ghost use lib.ListN.{length};
-ghost use Rattle.types.specs.Every.{allOf};
+ghost use Rattle.answer.specs.Every.{allOf};
 ghost use Rattle.shape.specs.Outline.{partWith, partsOf, outlineWith};
 ghost use Rattle.shape.specs.Ready.{Cut};
 ghost use Rattle.shape.specs.Rules.{closedRing, ringsClosed};

@@ -4,7 +4,7 @@ ghost use mathlib.Core.Bool.{true, _&&_};
 ghost use Prim.Native.Nat.{_≤_};
 ghost use lib.ListN.{length};
 ghost use Rattle.answer.specs.Rule.{judged};
-ghost use Rattle.types.specs.Every.{allOf};
+ghost use Rattle.answer.specs.Every.{allOf};
 ghost use Rattle.types.specs.Parts.{partsHold};
 ghost use Rattle.extent.specs.Rank.{allFinite};
 ghost use Rattle.extent.specs.Boxes.{patterns, FiniteBox};

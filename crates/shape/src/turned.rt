@@ -3,10 +3,10 @@ ghost use mathlib.Core.Path.{_≡_};
 ghost use mathlib.Core.Bool.{true};
 ghost use Prim.Native.Nat.{_≤_};
 ghost use lib.ListN.{length};
-ghost use Rattle.types.specs.Every.{allOf};
+ghost use Rattle.answer.specs.Every.{allOf};
 ghost use Rattle.shape.specs.Outline.{partWith, partsOf, outlineWith};
 ghost use Rattle.shape.specs.Ready.{Cut, Gridded};
-ghost use Rattle.shape.specs.Rules.{onGridShape, turned, ringsTurned, turnsHold};
+ghost use Rattle.shape.specs.Rules.{onGridShape, turnNotZero, ringsTurned, turnsHold};
 use grid::turning::clockwise;
 use grid::turning::no_turn;
 use grid::turning::turn;
@@ -14,7 +14,7 @@ use grid::turning::turn;
 // Whether a ring's turn is not zero.
 fn ring_turned(xs: &[u64], ys: &[u64]) -> bool
     requires { ⌜ Gridded (now xs) (now ys) ⌝ }
-    ensures { λ r. ⌜ r ≡ turned (partWith (now (xs .entry)) (now (ys .entry))) ⌝ }
+    ensures { λ r. ⌜ r ≡ turnNotZero (partWith (now (xs .entry)) (now (ys .entry))) ⌝ }
 {
     !no_turn(turn(xs, ys))
 }
@@ -22,7 +22,7 @@ fn ring_turned(xs: &[u64], ys: &[u64]) -> bool
 // Whether no ring's turn is zero.
 fn all_turned(lens: &[u16], xs: &[u64], ys: &[u64]) -> bool
     requires { ⌜ Cut (now lens) (now xs) (now ys) × Gridded (now xs) (now ys) ⌝ }
-    ensures { λ r. ⌜ r ≡ allOf turned (partsOf (now (lens .entry)) (now (xs .entry)) (now (ys .entry))) ⌝ }
+    ensures { λ r. ⌜ r ≡ allOf turnNotZero (partsOf (now (lens .entry)) (now (xs .entry)) (now (ys .entry))) ⌝ }
 {
     let mut i: usize = 0;
     let mut at: usize = 0;

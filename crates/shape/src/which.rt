@@ -2,7 +2,7 @@
 ghost use mathlib.Core.Path.{_≡_};
 ghost use mathlib.Core.Bool.{true, not};
 ghost use Prim.Native.Nat.{_≤_};
-ghost use Rattle.types.specs.Types.{rowOf};
+ghost use Rattle.types.specs.Types.{typeRow};
 ghost use Rattle.shape.specs.Outline.{outlineWith};
 ghost use Rattle.shape.specs.Ready.{Cut};
 ghost use Rattle.shape.specs.Which.{testOf, readyFor, spares};
@@ -32,7 +32,7 @@ pub fn shape_holds(w: Which, t: u8, lens: &[u16], xs: &[u64], ys: &[u64]) -> boo
 
 // Whether the parts of a type are not closed, any type.
 fn open_type(t: u8) -> bool
-    ensures { λ r. ⌜ r ≡ not (rowOf t .closed) ⌝ }
+    ensures { λ r. ⌜ r ≡ not (typeRow t .closed) ⌝ }
 {
     if t <= 6 {
         return !row_of(t).closed;

@@ -1,5 +1,3 @@
-pub mod Both
-pub mod Alls
 pub mod Sums
 pub mod Agreeing
 pub mod Tabled

@@ -12,10 +12,10 @@ use Rattle.answer.specs.Outcome.{ok}
 use Rattle.answer.proofs.Rules.{rule-ok}
 use Rattle.answer.proofs.Both.{both, both-l, both-r}
 use Rattle.types.specs.declared.rows.Row.{Row}
-use Rattle.types.specs.Every.{allOf}
-use Rattle.types.specs.Types.{rowOf}
+use Rattle.answer.specs.Every.{allOf}
+use Rattle.types.specs.Types.{typeRow}
 use Rattle.types.specs.Parts.{total, fits, lengthsFit, rowAgrees, shapeAgrees, partsAgree, partsHold, partsRule}
-use Rattle.types.proofs.Alls.{all-none, all-at, all-append, all-imp}
+use Rattle.answer.proofs.Alls.{all-none, all-append, all-at, all-imp}
 use Rattle.types.proofs.Tabled.{one-vertex}
 
 -- the rule that lets pass
@@ -46,14 +46,14 @@ fits-most least most n e = leb-true n most (both-r (leb least n) (leb n most) e)
 -- a shape of type t with c parts, the first of those left, that goes by the table
 pub record InTable (t c : ℕ) (lens : List ℕ) : Type 0 where
   pub known : t ≤ 6
-  pub parts : fits (rowOf t .«least_parts») (rowOf t .«most_parts») c ≡ true
+  pub parts : fits (typeRow t .«least_parts») (typeRow t .«most_parts») c ≡ true
   pub there : c ≤ length lens
-  pub lengths : lengthsFit (rowOf t) (take c lens) ≡ true
+  pub lengths : lengthsFit (typeRow t) (take c lens) ≡ true
 
 pub shape-says : (t c : ℕ) (lens : List ℕ) → shapeAgrees t c lens ≡ true → InTable t c lens
 unfolding shapeAgrees rowAgrees
 shape-says t c lens e =
-    let r = rowOf t in
+    let r = typeRow t in
     let row = both-r (leb t 6) (rowAgrees r c lens) e in
     let own = both-r (fits (r .«least_parts») (r .«most_parts») c) (leb c (length lens) && lengthsFit r (take c lens)) row in record {
       known = leb-true t 6 (both-l (leb t 6) (rowAgrees r c lens) e);
@@ -105,13 +105,13 @@ own-full t zero lens s = all-none (leb 1)
 own-full t (suc c) lens s = all-imp (fits (r .least) (r .most)) (leb 1) (take (suc c) lens) longer (unfold lengthsFit in s .lengths)
   where
     r : Row
-    r = rowOf t
+    r = typeRow t
 
-    one : 1 ≤ rowOf t .least
-    one = one-vertex t (s .known) (omega (arith, fits-most (rowOf t .«least_parts») (rowOf t .«most_parts») (suc c) (s .parts)))
+    one : 1 ≤ typeRow t .least
+    one = one-vertex t (s .known) (omega (arith, fits-most (typeRow t .«least_parts») (typeRow t .«most_parts») (suc c) (s .parts)))
 
-    longer : (n : ℕ) → fits (rowOf t .least) (rowOf t .most) n ≡ true → leb 1 n ≡ true
-    longer n e = le-leb 1 n (omega (arith, one, fits-least (rowOf t .least) (rowOf t .most) n e))
+    longer : (n : ℕ) → fits (typeRow t .least) (typeRow t .most) n ≡ true → leb 1 n ≡ true
+    longer n e = le-leb 1 n (omega (arith, one, fits-least (typeRow t .least) (typeRow t .most) n e))
 
 -- and those of a page
 pub agree-full : (types counts lens : List ℕ) → partsAgree types counts lens ≡ true → allOf (leb 1) lens ≡ true

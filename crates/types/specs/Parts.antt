@@ -9,8 +9,8 @@ use Rattle.answer.specs.Table.{parts}
 use Rattle.answer.specs.Outcome.{Out}
 use Rattle.answer.specs.Rule.{rule}
 use Rattle.types.specs.declared.rows.Row.{Row}
-use Rattle.types.specs.Every.{allOf}
-use Rattle.types.specs.Types.{rowOf}
+use Rattle.answer.specs.Every.{allOf}
+use Rattle.types.specs.Types.{typeRow}
 
 -- the sum
 unfoldable pub total : List ℕ → ℕ
@@ -31,7 +31,7 @@ rowAgrees r c lens = fits (r .«least_parts») (r .«most_parts») c && (leb c (
 
 -- a shape of type t with c parts goes by the table
 unfoldable pub shapeAgrees : ℕ → ℕ → List ℕ → Bool
-shapeAgrees t c lens = leb t 6 && rowAgrees (rowOf t) c lens
+shapeAgrees t c lens = leb t 6 && rowAgrees (typeRow t) c lens
 
 -- shape by shape, each with its own parts, and no part left
 unfoldable pub partsAgree : List ℕ → List ℕ → List ℕ → Bool

@@ -48,9 +48,9 @@ abbrev pub multiPolygon : Row
 multiPolygon = rowWith 1 more 4 more true
 
 -- the table, by type
-abbrev pub rows : List Row
-rows = empty ∷ point ∷ lineString ∷ polygon ∷ multiPoint ∷ multiLineString ∷ multiPolygon ∷ []
+abbrev pub typeRows : List Row
+typeRows = empty ∷ point ∷ lineString ∷ polygon ∷ multiPoint ∷ multiLineString ∷ multiPolygon ∷ []
 
 -- the row of a type
-unfoldable pub rowOf : ℕ → Row
-rowOf t = getD rows t empty
+unfoldable pub typeRow : ℕ → Row
+typeRow t = getD typeRows t empty

@@ -1,7 +1,7 @@
 // The table of the types: for each, how many parts, how many vertices in each part, and whether the parts are closed.
 ghost use mathlib.Core.Path.{_≡_};
 ghost use Prim.Native.Nat.{_≤_};
-ghost use Rattle.types.specs.Types.{rowOf};
+ghost use Rattle.types.specs.Types.{typeRow};
 
 // A row: least and most parts, least and most vertices in each part, closed or not.
 pub struct Row {
@@ -76,7 +76,7 @@ pub const ROWS: [Row; 7] = [
 // The row of a type.
 pub fn row_of(t: u8) -> Row
     requires { ⌜ t ≤ 6 ⌝ }
-    ensures { λ r. ⌜ r ≡ rowOf t ⌝ }
+    ensures { λ r. ⌜ r ≡ typeRow t ⌝ }
 {
     ROWS[t as usize]
 }

@@ -18,7 +18,7 @@ use Rattle.fetch.specs.declared.fetch.Fetched.{Fetched}
 use Rattle.fetch.specs.declared.fetch.Fetched.the-variants as fetched
 use Rattle.fetch.specs.Fetch.{shapeIn, Rooms, roomsOf, roomy, inRooms, fetchOf, answerOf, listOf, Fetches}
 use Rattle.viewer.specs.Word.{wordOf, Told}
-use Rattle.viewer.specs.Fetch.{fits, fetchCall, vertices, aboutWords, Shown}
+use Rattle.viewer.specs.Fetch.{roomForShape, fetchCall, vertices, aboutWords, Shown}
 use Rattle.viewer.proofs.Telling.{told-refused, told-ok}
 
 -- the four words of what was found
@@ -85,11 +85,11 @@ module _ (s : List ℕ) (place : ℕ) (da dl dx dy : List ℕ) where
   call = fetchCall s place (length da) rooms
 
   short : length da < 4 → call ≡ on (shapeIn s place) (λ _. refused (because table.room))
-  unfolding fetchCall fits need
+  unfolding fetchCall roomForShape need
   short h = rw (lt-leb 4 (length da) h)
 
   enough : 4 ≤ length da → call ≡ fetchOf s place rooms
-  unfolding fetchCall fits fetchOf inRooms
+  unfolding fetchCall roomForShape fetchOf inRooms
   enough h = rw (le-leb 4 (length da) h)
 
   -- too few words

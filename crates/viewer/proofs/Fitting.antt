@@ -22,12 +22,12 @@ use Rattle.file.proofs.Checks.{check-accepts}
 use Rattle.search.specs.Search.{hitsOf, searchOf, countOf}
 use Rattle.search.proofs.Rising.{rising-few}
 use Rattle.search.proofs.Ordered.{frame-few, hits-within}
-use Rattle.reader.specs.Next.{Turn, value, end}
+use Rattle.reader.specs.Next.{ValueOrEnd, value, end}
 use Rattle.shape.specs.Outline.{Shape}
 use Rattle.fetch.specs.Fetch.{shapeIn, Rooms}
 use Rattle.viewer.specs.Word.{wordOf}
 use Rattle.viewer.specs.Calls.{searchCall, gives}
-use Rattle.viewer.specs.Fetch.{fits, fetchCall, vertices}
+use Rattle.viewer.specs.Fetch.{roomForShape, fetchCall, vertices}
 use Rattle.viewer.proofs.Sizes.{shape-few}
 
 pub said-apart : (n : ℕ) → n < 2 ^ 32 → (wordOf (ok n) / 2 ^ 32 ≡ 0) × (wordOf (ok n) % 2 ^ 32 ≡ n)
@@ -96,7 +96,7 @@ read-fits P s n size l e =
     let d = decode-few P s n l (y .1) in
     omega (arith, h, d)
 
-pub step-fits : (t : Turn) → gives t ≤ 1
+pub step-fits : (t : ValueOrEnd) → gives t ≤ 1
 unfolding gives
 step-fits (value v p) = omega arith
 step-fits end = omega arith
@@ -105,5 +105,5 @@ pub fetch-fits : (s : List ℕ) (place about : ℕ) (r : Rooms) (sh : Shape) →
 unfolding fetchCall vertices
 fetch-fits s place about r sh e =
     let x = on-ok (shapeIn s place) _ sh e in
-    let y = need-ok (fits about r (x .0)) _ _ sh (x .2) in
+    let y = need-ok (roomForShape about r (x .0)) _ _ sh (x .2) in
     subst (λ (k : Shape). length (k .outline .xs) ≤ 2048) (ok-inj (y .1)) (shape-few s place (x .0) (x .1))

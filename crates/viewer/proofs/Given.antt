@@ -1,20 +1,19 @@
 -- With a value given, the last word of the position is that value: each rule of the reader's call keeps it so. Assumes nothing.
 use Prim.Native.Nat.{ℕ}
 use mathlib.Core.Path.{_≡_, refl, subst}
-use mathlib.Core.Bool.{Bool, true, false}
+use mathlib.Core.Bool.{Bool, true, false, cond}
 use mathlib.Core.List.{List}
 use lib.Dec.{leb, eqb}
 use Rattle.answer.specs.declared.Refusal.{Refusal}
 use Rattle.answer.specs.Outcome.{Out, refused, ok, need}
 use Rattle.answer.proofs.Outcomes.{on-ok}
-use Rattle.entry.specs.Step.{pick}
 use Rattle.column.specs.declared.Position.{Position}
 use Rattle.column.specs.Read.{closed}
-use Rattle.reader.specs.Next.{Turn, value, end, firstOf, laterOf, nextOf}
+use Rattle.reader.specs.Next.{ValueOrEnd, value, end, firstCall, laterCall, nextOf}
 use Rattle.viewer.specs.Four.{fourRule, positionOf}
 use Rattle.viewer.specs.Calls.{stepCall}
 
-unfoldable Lasts : Out Turn → Type 0
+unfoldable Lasts : Out ValueOrEnd → Type 0
 Lasts (refused w) = Unit {0}
 Lasts (ok (value v q)) = q .last ≡ v
 Lasts (ok end) = Unit {0}
@@ -27,7 +26,7 @@ value-lasts : (v : ℕ) (q : Position) → Lasts (ok (value v q)) → q .last �
 unfolding Lasts
 value-lasts v q e = e
 
-lasts-need : (t : Bool) (w : Refusal) (x : Out Turn) → Lasts x → Lasts (need t w x)
+lasts-need : (t : Bool) (w : Refusal) (x : Out ValueOrEnd) → Lasts x → Lasts (need t w x)
 unfolding Lasts need
 lasts-need true w x h = h
 lasts-need false w x h = tt
@@ -36,16 +35,16 @@ lasts-closed : (s : List ℕ) (at : ℕ) → Lasts (closed s at (ok end))
 unfolding Lasts closed
 lasts-closed s at = lasts-need _ _ (need _ _ (ok end)) (lasts-need _ _ (ok end) tt)
 
-lasts-either : (t : Bool) (x y : Out Turn) → Lasts x → Lasts y → Lasts (pick t x y)
+lasts-either : (t : Bool) (x y : Out ValueOrEnd) → Lasts x → Lasts y → Lasts (cond t x y)
 lasts-either true x y h k = h
 lasts-either false x y h k = k
 
-lasts-first : (P : ℕ) (s : List ℕ) (n : ℕ) → Lasts (firstOf P s n)
-unfolding firstOf
+lasts-first : (P : ℕ) (s : List ℕ) (n : ℕ) → Lasts (firstCall P s n)
+unfolding firstCall
 lasts-first P s n = lasts-either (eqb n 0) _ _ (lasts-closed s 0) (lasts-need _ _ _ (lasts-need _ _ _ (lasts-need _ _ _ (lasts-value _ _ refl))))
 
-lasts-later : (P : ℕ) (s : List ℕ) (n : ℕ) (p : Position) → Lasts (laterOf P s n p)
-unfolding laterOf
+lasts-later : (P : ℕ) (s : List ℕ) (n : ℕ) (p : Position) → Lasts (laterCall P s n p)
+unfolding laterCall
 lasts-later P s n p = lasts-need _ _ _ (lasts-need _ _ _ (lasts-either (leb n (p .given)) _ _ (lasts-closed s (p .at)) (lasts-need _ _ _ (lasts-need _ _ _ (lasts-value _ _ refl)))))
 
 lasts-next : (P : ℕ) (s : List ℕ) (n : ℕ) (p : Position) → Lasts (nextOf P s n p)

@@ -11,28 +11,28 @@ use Rattle.answer.specs.Outcome.{Out, refused, ok}
 use Rattle.column.specs.declared.Position.{Position}
 use Rattle.reader.specs.declared.Answer.{Answer}
 use Rattle.reader.specs.declared.Answer.the-variants.{Value, End, Refused}
-use Rattle.reader.specs.Next.{Turn, value, end, nextOf, answered}
+use Rattle.reader.specs.Next.{ValueOrEnd, value, end, nextOf, answerWith}
 use Rattle.viewer.specs.Word.{wordOf, Told}
-use Rattle.viewer.specs.Four.{positionOf, wordsOf}
+use Rattle.viewer.specs.Four.{positionOf, positionWords}
 use Rattle.viewer.specs.Calls.{stepCall, gives, moves}
 use Rattle.viewer.proofs.Stored.{four-short, four-enough}
 use Rattle.viewer.proofs.Telling.{told-refused, told-ok}
 
 -- what an answer says of the outcome
-said-value : (p q : Position) (v : ℕ) (o : Out Turn) → answered p o ≡ Value v q → o ≡ ok (value v q)
-unfolding answered
+said-value : (p q : Position) (v : ℕ) (o : Out ValueOrEnd) → answerWith p o ≡ Value v q → o ≡ ok (value v q)
+unfolding answerWith
 said-value p q v (refused w) e = let z : _≡_ {A = ℕ} 0 1 = cc in absurd (omega arith)
 said-value p q v (ok (value u r)) e = cc
 said-value p q v (ok end) e = let z : _≡_ {A = ℕ} 0 1 = cc in absurd (omega arith)
 
-said-end : (p q : Position) (o : Out Turn) → answered p o ≡ End q → o ≡ ok end
-unfolding answered
+said-end : (p q : Position) (o : Out ValueOrEnd) → answerWith p o ≡ End q → o ≡ ok end
+unfolding answerWith
 said-end p q (refused w) e = let z : _≡_ {A = ℕ} 0 1 = cc in absurd (omega arith)
 said-end p q (ok (value u r)) e = let z : _≡_ {A = ℕ} 0 1 = cc in absurd (omega arith)
 said-end p q (ok end) e = refl
 
-said-refused : (p q : Position) (w : Refusal) (o : Out Turn) → answered p o ≡ Refused w q → o ≡ refused w
-unfolding answered
+said-refused : (p q : Position) (w : Refusal) (o : Out ValueOrEnd) → answerWith p o ≡ Refused w q → o ≡ refused w
+unfolding answerWith
 said-refused p q w (refused x) e = cc
 said-refused p q w (ok (value u r)) e = let z : _≡_ {A = ℕ} 0 1 = cc in absurd (omega arith)
 said-refused p q w (ok end) e = let z : _≡_ {A = ℕ} 0 1 = cc in absurd (omega arith)
@@ -43,7 +43,7 @@ module _ (s : List ℕ) (n : ℕ) (ws : List ℕ) where
   unfolding stepCall
   step-short x h p = told-refused (because table.room) x (four-short ws _ h) p
 
-  module _ (h : 4 ≤ length ws) (p : Position) (e : p ≡ positionOf ws) (r : Answer) (f : r ≡ answered p (nextOf 64 s n p)) where
+  module _ (h : 4 ≤ length ws) (p : Position) (e : p ≡ positionOf ws) (r : Answer) (f : r ≡ answerWith p (nextOf 64 s n p)) where
     comes : stepCall s n ws ≡ nextOf 64 s n p
     unfolding stepCall
     comes = four-enough ws _ h ∙ rw e
@@ -57,6 +57,6 @@ module _ (s : List ℕ) (n : ℕ) (ws : List ℕ) where
     step-end q g = told-ok end 0 ws (comes ∙ said-end p q _ (sym f ∙ g)) refl refl
 
     -- a value: 1, and the words are the next position
-    pub step-value : (v : ℕ) (q : Position) (left : List ℕ) → r ≡ Value v q → left ≡ wordsOf q ++ drop 4 ws → Told (stepCall s n ws) gives moves ws 1 left
-    unfolding gives moves wordsOf
+    pub step-value : (v : ℕ) (q : Position) (left : List ℕ) → r ≡ Value v q → left ≡ positionWords q ++ drop 4 ws → Told (stepCall s n ws) gives moves ws 1 left
+    unfolding gives moves positionWords
     step-value v q left g k = told-ok (value v q) 1 left (comes ∙ said-value p q v _ (sym f ∙ g)) refl k

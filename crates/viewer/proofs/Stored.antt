@@ -12,7 +12,7 @@ use Rattle.answer.specs.Refusal.{because}
 use Rattle.answer.specs.Outcome.{Out, refused, on}
 use Rattle.answer.proofs.Rules.{rule-holds, rule-fails}
 use Rattle.writer.specs.State.{stateWith}
-use Rattle.viewer.specs.Four.{fourRule, countOf, flagOf, stateOf}
+use Rattle.viewer.specs.Four.{fourRule, cappedCount, flagOf, stateOf}
 
 -- stored one after the other, they stand before what stood behind the fourth
 pub four-put : (d : List ℕ) (a b c e : ℕ) → 4 ≤ length d → set (set (set (set d 0 a) 1 b) 2 c) 3 e ≡ (a ∷ b ∷ c ∷ e ∷ []) ++ drop 4 d
@@ -33,19 +33,19 @@ module _ {A : Type 0} (ws : List ℕ) (f : Unit {0} → Out A) where
   four-enough h = rw (rule-holds _ table.room (le-leb 4 (length ws) h))
 
 -- a count of 32 bits
-pub count-above : (w : ℕ) → 4294967295 < w → 4294967295 ≡ countOf w
-unfolding countOf
+pub count-above : (w : ℕ) → 4294967295 < w → 4294967295 ≡ cappedCount w
+unfolding cappedCount
 count-above w h = simp (lt-leb w 4294967295 h)
 
-pub count-within : (w : ℕ) → w ≤ 4294967295 → w ≡ countOf w
-unfolding countOf
+pub count-within : (w : ℕ) → w ≤ 4294967295 → w ≡ cappedCount w
+unfolding cappedCount
 count-within w h = simp (le-leb w 4294967295 h)
 
 -- a limit below the greatest judges the count as it would judge the word
-pub count-limit : (w m : ℕ) → m < 4294967295 → leb (countOf w) m ≡ leb w m
+pub count-limit : (w m : ℕ) → m < 4294967295 → leb (cappedCount w) m ≡ leb w m
 count-limit w m h = go (leb w 4294967295) refl
   where
-    go : (t : Bool) → leb w 4294967295 ≡ t → leb (countOf w) m ≡ leb w m
+    go : (t : Bool) → leb w 4294967295 ≡ t → leb (cappedCount w) m ≡ leb w m
     go true e = sym (ap (λ (x : ℕ). leb x m) (count-within w (leb-true w 4294967295 e)))
     go false e =
         let a = leb-false w 4294967295 e in
@@ -62,7 +62,7 @@ unfolding flagOf
 flag-open t e = rw e
 
 -- a state, word by word
-pub state-is : (ws : List ℕ) (pages shapes : ℕ) → pages ≡ countOf (getD ws 1 0) → shapes ≡ countOf (getD ws 2 0)
+pub state-is : (ws : List ℕ) (pages shapes : ℕ) → pages ≡ cappedCount (getD ws 1 0) → shapes ≡ cappedCount (getD ws 2 0)
     → stateWith (getD ws 0 0) pages shapes (not (eqb (getD ws 3 0) 0)) ≡ stateOf ws
 unfolding stateOf
 state-is ws pages shapes p q = rw (p, q)

@@ -44,12 +44,12 @@ told-filled (ok l) f x q p = record { word = p ∙ ap (λ (f : Filled). wordOf (
 
 -- ---- the search, by what its query's block says
 
-module _ (query file d : List ℕ) (r : AskRead) (f : block.said r ≡ askOf query) where
+module _ (query file d : List ℕ) (r : AskRead) (f : block.saidAsk r ≡ askOf query) where
   pub search-unasked : (w : Refusal) (x : ℕ) → r ≡ read.Refused w → x ≡ wordOf (refused w) → Told (searchCall query file (length d)) length (λ l. l) d x d
-  unfolding block.said searchCall on
+  unfolding block.saidAsk searchCall on
   search-unasked w x e p = told-refused w x (rw (← f, e)) p
 
   pub search-asked : (a : Ask) (g : Filled) (x : ℕ) (left : List ℕ) → r ≡ read.Asked a → Fills (searchOf a file (length d)) d g left → x ≡ wordOf (saidFilled g)
       → Told (searchCall query file (length d)) length (λ l. l) d x left
-  unfolding block.said searchCall on
+  unfolding block.saidAsk searchCall on
   search-asked a g x left e q p = rw (← f, e) (told-filled (searchOf a file (length d)) g x q p)

@@ -33,16 +33,16 @@ module _ (s : List ℕ) (r : Checked) (f : saidCheck r ≡ checkOf s) where
 
 -- ---- the count of a query's block
 
-module _ (q s : List ℕ) (r : AskRead) (f : block.said r ≡ askOf q) where
+module _ (q s : List ℕ) (r : AskRead) (f : block.saidAsk r ≡ askOf q) where
   pub word-unasked : (w : Refusal) (x : ℕ) → r ≡ read.Refused w → x ≡ wordOf (refused w) → x ≡ wordOf (on (askOf q) (λ a. countOf a s))
-  unfolding block.said on
+  unfolding block.saidAsk on
   word-unasked w x e p = p ∙ rw (← f, e)
 
   module _ (a : Ask) (e : r ≡ read.Asked a) (c : Counted) (g : saidCount c ≡ countOf a s) where
     pub word-hits : (n : ℕ) → c ≡ counted.Hits n → n ≡ wordOf (on (askOf q) (λ a. countOf a s))
-    unfolding block.said saidCount on wordOf
+    unfolding block.saidAsk saidCount on wordOf
     word-hits n h = rw (← f, e, ← g, h)
 
     pub word-uncounted : (w : Refusal) (x : ℕ) → c ≡ counted.Refused w → x ≡ wordOf (refused w) → x ≡ wordOf (on (askOf q) (λ a. countOf a s))
-    unfolding block.said saidCount on
+    unfolding block.saidAsk saidCount on
     word-uncounted w x h p = p ∙ rw (← f, e, ← g, h)

@@ -5,40 +5,45 @@ use mathlib.Core.List.{List, []}
 use Rattle.answer.specs.Outcome.{Out, on}
 use Rattle.query.specs.Block.{askOf}
 use Rattle.search.specs.Search.{searchOf}
-use Rattle.reader.specs.Next.{Turn, value, end, nextOf}
+use Rattle.reader.specs.Next.{ValueOrEnd, value, end, nextOf}
 use Rattle.pageblock.specs.Body.{Handed}
 use Rattle.writer.specs.State.{Added, openOf, pageStepOf, closeOf, bufferAfter}
 use Rattle.viewer.specs.Word.{Told}
-use Rattle.viewer.specs.Four.{fourRule, positionOf, wordsOf, stateOf, stateWords}
+use Rattle.viewer.specs.Four.{fourRule, positionOf, positionWords, stateOf, stateWords}
 
 -- ---- the search: the query is exactly its block
 
+-- what the block asks, of the file, with so much room
 unfoldable pub searchCall : List ℕ → List ℕ → ℕ → Out (List ℕ)
 searchCall query file room = on (askOf query) (λ a. searchOf a file room)
 
 -- ---- one value of a column
 
-unfoldable pub stepCall : List ℕ → ℕ → List ℕ → Out Turn
+-- fewer than four words is 2; else the call at the position that they are
+unfoldable pub stepCall : List ℕ → ℕ → List ℕ → Out ValueOrEnd
 stepCall column n words = on (fourRule words) (λ _. nextOf 64 column n (positionOf words))
 
 -- it says 1 with a value, 0 at the end
-unfoldable pub gives : Turn → ℕ
+unfoldable pub gives : ValueOrEnd → ℕ
 gives (value v p) = 1
 gives end = 0
 
 -- with a value the words are the next position; at the end nothing is put
-unfoldable pub moves : Turn → List ℕ
-moves (value v p) = wordsOf p
+unfoldable pub moves : ValueOrEnd → List ℕ
+moves (value v p) = positionWords p
 moves end = []
 
 -- ---- the writer, for a buffer of so many bytes
 
+-- fewer than four words is 2; else open
 unfoldable pub openCall : List ℕ → ℕ → Out Added
 openCall words room = on (fourRule words) (λ _. openOf room)
 
+-- fewer than four words is 2; else a page, at the state that they are
 unfoldable pub pageCall : List ℕ → ℕ → Handed → Out Added
 pageCall words room i = on (fourRule words) (λ _. pageStepOf (stateOf words) room i)
 
+-- fewer than four words is 2; else the end, at the state that they are
 unfoldable pub closeCall : List ℕ → ℕ → Out Added
 closeCall words room = on (fourRule words) (λ _. closeOf (stateOf words) room)
 

@@ -14,12 +14,12 @@ use Rattle.fetch.specs.Fetch.{shapeIn, Rooms, roomy, listOf}
 use Rattle.viewer.specs.Word.{Told}
 
 -- room for four words about the shape, and for its lists
-unfoldable pub fits : ℕ → Rooms → Shape → Bool
-fits about r sh = leb 4 about && roomy r (sh .outline)
+unfoldable pub roomForShape : ℕ → Rooms → Shape → Bool
+roomForShape about r sh = leb 4 about && roomy r (sh .outline)
 
 -- the shape at a place of a file, with so much room: 2 comes last
 unfoldable pub fetchCall : List ℕ → ℕ → ℕ → Rooms → Out Shape
-fetchCall file place about r = on (shapeIn file place) (λ sh. need (fits about r sh) (because table.room) (ok sh))
+fetchCall file place about r = on (shapeIn file place) (λ sh. need (roomForShape about r sh) (because table.room) (ok sh))
 
 -- it says how many vertices the shape has
 unfoldable pub vertices : Shape → ℕ

@@ -3,7 +3,7 @@ ghost use mathlib.Core.Path.{_≡_};
 ghost use mathlib.Core.List.{_++_};
 ghost use Prim.Native.Nat.{_≤_};
 ghost use lib.ListN.{length, drop};
-ghost use Rattle.viewer.specs.Four.{positionOf, wordsOf};
+ghost use Rattle.viewer.specs.Four.{positionOf, positionWords};
 use crate::four::put_four;
 use column::Position;
 
@@ -23,7 +23,7 @@ pub fn position_of(words: &[u64]) -> Position
 // The words of a position.
 pub fn put_position(words: &mut [u64], p: Position)
     requires { ⌜ 4 ≤ length (now words) ⌝ }
-    ensures { λ r. ⌜ now (words .exit) ≡ wordsOf p ++ drop 4 (now (words .entry)) ⌝ }
+    ensures { λ r. ⌜ now (words .exit) ≡ positionWords p ++ drop 4 (now (words .entry)) ⌝ }
 {
     put_four(words, p.at as u64, p.given as u64, p.width, p.last);
 }

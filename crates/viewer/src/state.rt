@@ -5,7 +5,7 @@ ghost use Prim.Native.Nat.{_≤_};
 ghost use lib.ListN.{length, drop};
 ghost use Rattle.answer.specs.Rule.{judged};
 ghost use Rattle.viewer.specs.Word.{Told};
-ghost use Rattle.viewer.specs.Four.{countOf, stateOf, flagOf, stateWords};
+ghost use Rattle.viewer.specs.Four.{cappedCount, stateOf, flagOf, stateWords};
 use crate::four::put_four;
 use crate::word::refusal_word;
 use answer::Verdict;
@@ -14,7 +14,7 @@ use writer::Writer;
 
 // A count of 32 bits; a word above is the greatest.
 fn count_of(word: u64) -> u32
-    ensures { λ r. ⌜ r ≡ countOf word ⌝ }
+    ensures { λ r. ⌜ r ≡ cappedCount word ⌝ }
 {
     if 4294967295 < word {
         return 4294967295;

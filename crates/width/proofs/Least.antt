@@ -1,6 +1,6 @@
 -- The least value of a function on 0 to k is at `least`, and at no smaller number. Assumes nothing.
 use mathlib.Core.Path.{_≡_, refl, sym, ap, _∙_, subst}
-use mathlib.Core.Bool.{Bool, true, false}
+use mathlib.Core.Bool.{Bool, true, false, cond}
 use mathlib.Core.Logic.{⊎-elim}
 use Prim.Native.Nat.{ℕ, zero, suc, _+_, _≤_, _<_, zero-le}
 use native.Mathlib.Nat.{eq-or-lt-of-le}
@@ -8,16 +8,9 @@ use native.Mathlib.Numerals.{add-one}
 use native.Mathlib.Omega.{arith}
 use lib.Dec.{ltb}
 use borrow.Author.Tests.{lt-ltb, le-ltb, ltb-true, ltb-false}
-use Rattle.entry.specs.Step.{pick}
 use Rattle.width.specs.declared.Choice.{Choice}
-use Rattle.width.specs.Width.{least}
-use Rattle.width.specs.Choice.{lesser}
-
--- f is least at m among 0 to k, and more at each smaller number
-pub record Least (f : ℕ → ℕ) (k m : ℕ) : Type 0 where
-  pub within : m ≤ k
-  pub least-of : (j : ℕ) → j ≤ k → f m ≤ f j
-  pub first-of : (j : ℕ) → j < m → f m < f j
+use Rattle.width.specs.Width.{Least, least}
+use Rattle.width.specs.Choice.{lesserChoice}
 
 pub least-law : (f : ℕ → ℕ) (k : ℕ) → Least f k (least f k)
 unfolding least
@@ -27,7 +20,7 @@ least-law f zero = record { within = zero-le; least-of = λ j h. at-zero j (omeg
     at-zero j e = subst (λ (i : ℕ). f 0 ≤ f i) (sym e) (omega arith)
 least-law f (suc k) = go (ltb (f (suc k)) (f (least f k))) refl (least-law f k)
   where
-    go : (t : Bool) → ltb (f (suc k)) (f (least f k)) ≡ t → Least f k (least f k) → Least f (suc k) (pick t (suc k) (least f k))
+    go : (t : Bool) → ltb (f (suc k)) (f (least f k)) ≡ t → Least f k (least f k) → Least f (suc k) (cond t (suc k) (least f k))
     go true e r =
         let lt : f (suc k) < f (least f k) = ltb-true _ _ e in
         record {
@@ -55,13 +48,13 @@ unfolding least
 chosen-zero f size e = record { width = refl; size = e }
 
 -- one width more
-pub chosen-more : (f : ℕ → ℕ) (k size : ℕ) (c r : Choice) → size ≡ f (k + 1) → r ≡ lesser c (k + 1) size → Chosen f k c → Chosen f (k + 1) r
+pub chosen-more : (f : ℕ → ℕ) (k size : ℕ) (c r : Choice) → size ≡ f (k + 1) → r ≡ lesserChoice c (k + 1) size → Chosen f k c → Chosen f (k + 1) r
 unfolding least
 chosen-more f k size c r e q h = subst (Chosen f (k + 1)) (sym q) (go (ltb size (c .size)) refl)
   where
     test : ltb size (c .size) ≡ ltb (f (suc k)) (f (least f k))
     test = rw (e, h .size, h .width, add-one)
 
-    go : (t : Bool) → ltb size (c .size) ≡ t → Chosen f (k + 1) (pick t (record { width = k + 1; size = size }) c)
+    go : (t : Bool) → ltb size (c .size) ≡ t → Chosen f (k + 1) (cond t (record { width = k + 1; size = size }) c)
     go true g = let l : least f (k + 1) ≡ k + 1 = rw (add-one, ← test, g) in record { width = sym l; size = e }
     go false g = let l : least f (k + 1) ≡ least f k = rw (add-one, ← test, g) in record { width = h .width ∙ sym l; size = h .size }

@@ -1,7 +1,7 @@
 -- Laws of S(n): the entries' bits are S(n), it is at most P(N - 1) at the width taken, and the walk that counts full steps. Assumes nothing.
 use mathlib.Core.Path.{_≡_, refl, sym, ap, ap₂, _∙_}
 use mathlib.Core.List.{List, [], _∷_, _++_}
-use mathlib.Core.Bool.{Bool, true, false}
+use mathlib.Core.Bool.{Bool, true, false, cond}
 use Prim.Native.Nat.{ℕ, suc, _+_, _-_, _*_, _^_, _≤_, _<_, zero-le}
 use native.Mathlib.Nat.{mul-suc, mul-zero, mul-one, mul-add, zero-mul, zero-add, mul-le-mul, mul-le-mul-left, mul-le-mul-right, add-mul}
 use native.Mathlib.Numerals.{add-one}
@@ -10,20 +10,20 @@ use lib.Dec.{leb}
 use lib.ListN.{length, getD, drop, drop-of-length-le}
 use lib.Seq.{drop-cons}
 use borrow.Author.Tests.{le-leb, lt-leb, leb-true, leb-false}
-use Rattle.entry.specs.Step.{pick, zOf, marker}
+use Rattle.entry.specs.Step.{zOf, marker}
 use Rattle.entry.specs.Fields.{pack, bits}
 use Rattle.entry.specs.Entry.{entries, entryOf}
 use Rattle.entry.proofs.Fields.{bits-append}
 use Rattle.entry.proofs.Entries.{short-bits, full-bits, entries-cons}
-use Rattle.width.specs.Width.{zsAfter, zsOf, fulls, S, least, widthOf}
-use Rattle.width.proofs.Least.{Least, least-law}
+use Rattle.width.specs.Width.{zsAfter, zsOf, fulls, S, least, widthOf, Least}
+use Rattle.width.proofs.Least.{least-law}
 
 pub fulls-le : (n : ℕ) (zs : List ℕ) → fulls n zs ≤ length zs
 unfolding fulls
 fulls-le n [] = omega arith
 fulls-le n (z ∷ zs) = go (leb (marker n) z) (fulls-le n zs)
   where
-    go : (t : Bool) → fulls n zs ≤ length zs → pick t 1 0 + fulls n zs ≤ suc (length zs)
+    go : (t : Bool) → fulls n zs ≤ length zs → cond t 1 0 + fulls n zs ≤ suc (length zs)
     go true h = omega arith
     go false h = omega arith
 
@@ -54,7 +54,7 @@ bits-S P n a [] = sym (ap₂ (λ (x y : ℕ). x + y) (mul-zero n) (mul-zero P))
 bits-S P n a (v ∷ vs) = go (leb (marker n) (zOf P a v)) refl (bits-S P n v vs)
   where
     go : (t : Bool) → leb (marker n) (zOf P a v) ≡ t → bits (entries P n v vs) ≡ n * length (zsAfter P v vs) + P * fulls n (zsAfter P v vs)
-        → bits (entries P n a (v ∷ vs)) ≡ n * suc (length (zsAfter P v vs)) + P * (pick (leb (marker n) (zOf P a v)) 1 0 + fulls n (zsAfter P v vs))
+        → bits (entries P n a (v ∷ vs)) ≡ n * suc (length (zsAfter P v vs)) + P * (cond (leb (marker n) (zOf P a v)) 1 0 + fulls n (zsAfter P v vs))
     go true e ih =
         rw e (ap bits (entries-cons P n a v vs) ∙ bits-append (entryOf P n a v) (entries P n v vs)
         ∙ ap₂ (λ (x y : ℕ). x + y) (full-bits P n a v (zOf P a v) refl (leb-true _ _ e)) ih
@@ -111,10 +111,10 @@ zs-step P a i vs h = ap (zsAfter P a) (drop-cons vs i 0 h) ∙ rw add-one
 
 -- one step more
 pub count-more : (P n a i count total m z r : ℕ) (vs : List ℕ) → i < length vs → count + fulls n (zsAfter P a (drop i vs)) ≡ total
-    → m ≡ marker n → z ≡ zOf P a (getD vs i 0) → r ≡ pick (leb m z) 1 0 → count + r + fulls n (zsAfter P (getD vs i 0) (drop (i + 1) vs)) ≡ total
+    → m ≡ marker n → z ≡ zOf P a (getD vs i 0) → r ≡ cond (leb m z) 1 0 → count + r + fulls n (zsAfter P (getD vs i 0) (drop (i + 1) vs)) ≡ total
 unfolding fulls
 count-more P n a i count total m z r vs l e hm hz hr =
-    let q : r ≡ pick (leb (marker n) (zOf P a (getD vs i 0))) 1 0 = rw (← hm, ← hz) hr in
+    let q : r ≡ cond (leb (marker n) (zOf P a (getD vs i 0))) 1 0 = rw (← hm, ← hz) hr in
     omega (arith, ap (fulls n) (zs-step P a i vs l))
 
 -- what is counted is at most what there is

@@ -1,11 +1,12 @@
 // The width of a column: the one of least size, found by trying each.
 ghost use mathlib.Core.Path.{_≡_};
+ghost use mathlib.Core.Bool.{cond};
 ghost use Prim.Native.Nat.{_≤_};
 ghost use lib.ListN.{length};
 ghost use Rattle.width.specs.Width.{zsOf, fulls, S, widthOf};
-ghost use Rattle.width.specs.Choice.{lesser};
+ghost use Rattle.width.specs.Choice.{lesserChoice};
 ghost use lib.Dec.{leb};
-ghost use Rattle.entry.specs.Step.{marker, pick};
+ghost use Rattle.entry.specs.Step.{marker};
 
 // A width n, and S(n): the bits that the entries take at it.
 pub struct Choice {
@@ -15,7 +16,7 @@ pub struct Choice {
 
 // 0 for a step that is below the marker m, 1 for one that is stored in full.
 fn full(z: u64, m: u64) -> u64
-    ensures { λ r. ⌜ r ≡ pick (leb m z) 1 0 ⌝ }
+    ensures { λ r. ⌜ r ≡ cond (leb m z) 1 0 ⌝ }
 {
     if z < m { 0 } else { 1 }
 }
@@ -54,7 +55,7 @@ fn size_at(vs: &[u64], n: u64) -> u64
 
 // The choice c, or width n of this size if that is less.
 fn lesser(c: Choice, n: u64, size: u64) -> Choice
-    ensures { λ r. ⌜ r ≡ lesser c n size ⌝ }
+    ensures { λ r. ⌜ r ≡ lesserChoice c n size ⌝ }
 {
     if size < c.size {
         Choice { width: n, size }

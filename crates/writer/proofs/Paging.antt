@@ -18,8 +18,8 @@ use Rattle.answer.specs.Outcome.{Out, refused, ok, need, on, filled, answered, 
 use Rattle.answer.proofs.Outcomes.{ok-inj, need-ok, on-ok}
 use Rattle.page.proofs.Orders.{on-refused, on-value}
 use Rattle.pageblock.specs.Body.{Handed}
-use Rattle.pageblock.specs.Page.{pageOf, roomFor, pageBlockOf}
-use Rattle.pageblock.proofs.Passing.{even-limits}
+use Rattle.pageblock.specs.Page.{pageWritten, roomFor, pageBlockOf}
+use Rattle.pageblock.proofs.Passing.{even-limits, rules-passed}
 use Rattle.pageblock.proofs.Blocks.{page-ok-is}
 use Rattle.pageblock.proofs.Sizes.{length-page}
 use Rattle.writer.specs.declared.Writer.{Writer}
@@ -96,10 +96,10 @@ rest-put d bytes e at n h k q =
 -- ---- the step, by the block for the rest
 
 -- a page that passes is no empty block
-page-some : (i : Handed) (bytes : List ℕ) → pageOf i ≡ ok bytes → 0 < length bytes
+page-some : (i : Handed) (bytes : List ℕ) → pageWritten i ≡ ok bytes → 0 < length bytes
 page-some i bytes e = omega (arith, ap length (page-ok-is i bytes e .0), length-page i)
 
-block-page : (room : ℕ) (i : Handed) (bytes : List ℕ) → pageBlockOf room i ≡ ok bytes → (pageOf i ≡ ok bytes) × (length bytes ≤ room)
+block-page : (room : ℕ) (i : Handed) (bytes : List ℕ) → pageBlockOf room i ≡ ok bytes → (pageWritten i ≡ ok bytes) × (length bytes ≤ room)
 unfolding pageBlockOf roomFor
 block-page room i bytes e =
     let a = on-ok _ _ _ e in
@@ -133,8 +133,8 @@ module _ (st : Writer) (d : List ℕ) (i : Handed) (from : ℕ) (ef : from ≡ s
   unfolding pageBlockOf next
   by-block =
       page-rest st (length d) i o h k
-      ∙ put-on (pageOf i) (length rest) (length d) (st .position) next
-      (λ (bytes : List ℕ) (e : pageOf i ≡ ok bytes). ap (leb (length bytes)) length-rest ∙ fits-same (st .position) (length d) (length bytes) (page-some i bytes e))
+      ∙ put-on (pageWritten i) (length rest) (length d) (st .position) next
+      (λ (bytes : List ℕ) (e : pageWritten i ≡ ok bytes). ap (leb (length bytes)) length-rest ∙ fits-same (st .position) (length d) (length bytes) (page-some i bytes e))
 
   -- what the block refuses the step refuses
   pub page-refused : (w : Refusal) (left : List ℕ) → Fills (pageBlockOf (length (take (length d - from) (drop from d))) i) (take (length d - from) (drop from d)) (Refused w) left
@@ -155,7 +155,7 @@ module _ (st : Writer) (d : List ℕ) (i : Handed) (from : ℕ) (ef : from ≡ s
         let m : length (p .0) ≤ length d - startOf (st .position) (length d) = omega (arith, b .1, length-rest) in
         let l : leb (st .position + length (p .0)) (length d) ≡ true =
         sym (fits-same (st .position) (length d) (length (p .0)) some) ∙ le-leb (length (p .0)) (length d - startOf (st .position) (length d)) m in
-        (omega (arith, leb-true (st .position + length (p .0)) (length d) l, p .2), even-limits i (page-ok-is i (p .0) (b .0) .1 .even) .few)
+        (omega (arith, leb-true (st .position + length (p .0)) (length d) l, p .2), even-limits i (rules-passed i tt (page-ok-is i (p .0) (b .0) .1) .even) .few)
 
     -- and the step is taken
     pub page-taken : Steps (pageStepOf st (length d) i) st d

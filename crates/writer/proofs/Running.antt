@@ -12,13 +12,15 @@ use Rattle.frame.specs.Frame.{shapesOf, frameOf}
 use Rattle.frame.specs.Whole.{blockOf, pageBlocks, endBlock, fileOf, Every, none, more, IsFile}
 use Rattle.frame.proofs.Wholes.{is-frame}
 use Rattle.pageblock.specs.Body.{Handed, bodyOf, pageBytes}
-use Rattle.pageblock.specs.Ready.{Typed}
+use Rattle.pageblock.specs.Typed.{Typed}
+use Rattle.pageblock.specs.Page.{pageRules}
 use Rattle.pageblock.specs.Written.{headFor, pageFor}
-use Rattle.pageblock.proofs.Passing.{Passed}
+use Rattle.pageblock.proofs.Passing.{rules-passed}
 use Rattle.pageblock.proofs.ReadBack.{page-says}
-use Rattle.writer.specs.State.{Added, firstBlock, openOf, pageStepOf, closeOf, stateAfter, bufferAfter}
+use Rattle.writer.specs.State.{Added, firstBlock, pageStepOf, closeOf, stateAfter, bufferAfter}
 use Rattle.writer.specs.Run as run
-use Rattle.writer.specs.Run.{Call, pageCall, closeCall, Held, callOf, leftBy, afterCalls, pageOfCall, takenOf, TypedCall, TypedCalls, pagesFor, frameFor, fileSoFar}
+use Rattle.writer.specs.Run.{Call, aPage, theEnd, Held, callOf, leftBy, afterOpen, afterCalls, pageOfCall, takenOf, TypedCall, TypedCalls, fileIn, pagesFor, frameFor, fileSoFar}
+use Rattle.writer.specs.Written.{Sounds, sounds-none, sounds-more, Written}
 use Rattle.writer.proofs.Ends.{length-first}
 use Rattle.writer.proofs.Ways.{open-ok}
 use Rattle.writer.proofs.Taken.{page-was, close-was}
@@ -50,11 +52,7 @@ length-pages (i ∷ is) = omega (arith, length-pages is)
 
 -- ---- pages that passed
 
-pub data Sounds : List Handed → Type 0 where
-  sounds-none : Sounds []
-  sounds-more : {i : Handed} {is : List Handed} → Typed i → Passed i → Sounds is → Sounds (i ∷ is)
-
-sounds-last : {is : List Handed} {i : Handed} → Sounds is → Typed i → Passed i → Sounds (is ++ i ∷ [])
+sounds-last : {is : List Handed} {i : Handed} → Sounds is → Typed i → pageRules i ≡ ok tt → Sounds (is ++ i ∷ [])
 sounds-last sounds-none t p = sounds-more t p sounds-none
 sounds-last (sounds-more u q s) t p = sounds-more u q (sounds-last s t p)
 
@@ -62,20 +60,12 @@ sounds-last (sounds-more u q s) t p = sounds-more u q (sounds-last s t p)
 pub pages-say : {is : List Handed} → Sounds is → Every 1 (pagesFor is)
 unfolding pagesFor
 pages-say sounds-none = none
-pages-say (sounds-more {i = i} t p s) = more (page-says i t p) (pages-say s)
+pages-say (sounds-more {i = i} t p s) = more (page-says i t (rules-passed i tt p)) (pages-say s)
 
--- ---- the invariant
-
-pub record Written (h : Held) (is : List Handed) : Type 0 where
-  pub inside : h .state .position ≤ length (h .buffer)
-  pub bytes : take (h .state .position) (h .buffer) ≡ fileSoFar (h .state .closed) is
-  pub pages : h .state .pages ≡ length is
-  pub shapes : h .state .shapes ≡ shapesOf (pagesFor is)
-  pub few : length is ≤ 1024
-  pub sound : Sounds is
+-- ---- what stands in the buffer
 
 -- after open: no pages
-pub written-open : (h : Held) → 8 ≤ length (h .buffer) → Written (leftBy (openOf (length (h .buffer))) h) []
+pub written-open : (h : Held) → 8 ≤ length (h .buffer) → Written (afterOpen h) []
 unfolding leftBy stateAfter bufferAfter fileSoFar pageBlocks pagesFor shapesOf
 written-open h l =
     let d = h .buffer in
@@ -140,8 +130,8 @@ module _ (h : Held) (is : List Handed) (w : Written h is) where
   written-call : (c : Call) (o : Out Added) → callOf h c ≡ o → TypedCall c → Written (leftBy o h) (is ++ pageOfCall o c)
   unfolding leftBy stateAfter bufferAfter callOf pageOfCall TypedCall
   written-call c (refused x) e t = subst (Written h) (sym (append-nil is)) w
-  written-call (pageCall i) (ok a) e t = written-page i a t e
-  written-call closeCall (ok a) e t = subst (Written (leftBy (ok a) h)) (sym (append-nil is)) (written-close a e)
+  written-call (aPage i) (ok a) e t = written-page i a t e
+  written-call theEnd (ok a) e t = subst (Written (leftBy (ok a) h)) (sym (append-nil is)) (written-close a e)
 
 -- all of them
 pub written-calls : (h : Held) (is : List Handed) (cs : List Call) → Written h is → TypedCalls cs → Written (afterCalls h cs) (is ++ takenOf h cs)
@@ -154,13 +144,13 @@ written-calls h is (c ∷ cs) w (run.more t ts) =
 
 -- two writers that took the same pages have written the same bytes
 pub written-same : (h k : Held) (is : List Handed) → Written h is → Written k is → h .state .closed ≡ k .state .closed
-    → take (h .state .position) (h .buffer) ≡ take (k .state .position) (k .buffer)
+    → fileIn h ≡ fileIn k
 written-same h k is v w e = v .bytes ∙ ap (λ (c : Bool). fileSoFar c is) e ∙ sym (w .bytes)
 
 -- ---- the file
 
 -- once closed, what stands before the position is the file of the pages that were taken
-pub written-file : (h : Held) (is : List Handed) → Written h is → h .state .closed ≡ true → IsFile (take (h .state .position) (h .buffer)) (frameFor is)
+pub written-file : (h : Held) (is : List Handed) → Written h is → h .state .closed ≡ true → IsFile (fileIn h) (frameFor is)
 unfolding fileSoFar frameFor
 written-file h is w e = record {
   edition = refl;
@@ -170,9 +160,8 @@ written-file h is w e = record {
 }
 
 -- from open on, with the buffer lent back as it was left: a closed writer's file has the frame of the pages that were taken, each of which passed
-pub run-frame : (h : Held) (cs : List Call) → 8 ≤ length (h .buffer) → TypedCalls cs → (let o = leftBy (openOf (length (h .buffer))) h in let e = afterCalls o cs in
-    e .state .closed ≡ true → (frameOf (take (e .state .position) (e .buffer)) ≡ ok (frameFor (takenOf o cs))) × Sounds (takenOf o cs))
+pub run-frame : (h : Held) (cs : List Call) → 8 ≤ length (h .buffer) → TypedCalls cs → afterCalls (afterOpen h) cs .state .closed ≡ true
+    → (frameOf (fileIn (afterCalls (afterOpen h) cs)) ≡ ok (frameFor (takenOf (afterOpen h) cs))) × Sounds (takenOf (afterOpen h) cs)
 run-frame h cs l t c =
-    let o = leftBy (openOf (length (h .buffer))) h in
-    let w = written-calls o [] cs (written-open h l) t in
-    (is-frame _ _ (written-file (afterCalls o cs) (takenOf o cs) w c), w .sound)
+    let w = written-calls (afterOpen h) [] cs (written-open h l) t in
+    (is-frame _ _ (written-file (afterCalls (afterOpen h) cs) (takenOf (afterOpen h) cs) w c), w .sound)

@@ -13,7 +13,7 @@ use Rattle.answer.proofs.Rules.{rule-ok}
 use Rattle.answer.proofs.Both.{both-l}
 use Rattle.frame.specs.Whole.{endBlock}
 use Rattle.pageblock.specs.Body.{Handed, pageBytes}
-use Rattle.pageblock.proofs.Passing.{Passed}
+use Rattle.pageblock.specs.Page.{pageRules}
 use Rattle.pageblock.proofs.Blocks.{page-ok-is}
 use Rattle.writer.specs.declared.Writer.{Writer}
 use Rattle.writer.specs.State.{Added, stateWith, putAt, openRule, pagesRule, pageStepOf, closeOf}
@@ -35,7 +35,7 @@ open-is st u e = not-true (st .closed) (rule-ok (not (st .closed)) table.closed 
 pub record PageTaken (st : Writer) (room : ℕ) (i : Handed) (a : Added) : Type 0 where
   pub opened : st .closed ≡ false
   pub below : st .pages < 1024
-  pub passed : Passed i
+  pub passed : pageRules i ≡ ok tt
   pub fits : st .position + length (pageBytes i) ≤ room
   pub adds : added (stateWith (st .position + length (pageBytes i)) (st .pages + 1) (st .shapes + length (i .registers)) false) (st .position) (pageBytes i) ≡ a
 

@@ -14,7 +14,7 @@ use Rattle.answer.proofs.Rules.{rule-holds, rule-fails}
 use Rattle.frame.specs.Whole.{endBlock}
 use Rattle.page.proofs.Orders.{on-refused, on-value}
 use Rattle.pageblock.specs.Body.{Handed}
-use Rattle.pageblock.specs.Page.{pageOf}
+use Rattle.pageblock.specs.Page.{pageWritten}
 use Rattle.writer.specs.declared.Writer.{Writer}
 use Rattle.writer.specs.State.{Added, stateWith, putAt, openRule, firstBlock, openOf, pagesRule, pageStepOf, totalsRule, closeOf}
 use Rattle.writer.proofs.Ends.{length-first, length-end}
@@ -72,7 +72,7 @@ module _ (st : Writer) (room : ℕ) (i : Handed) where
       page-shapes k = on-value _ _ tt (opened st o) ∙ on-refused _ _ (because table.many) (rule-fails _ table.many (rw (lt-ltb (st .pages) 1024 h, lt-leb (st .shapes) 262144 k)))
 
       pub page-rest : st .shapes ≤ 262144 → pageStepOf st room i
-          ≡ on (pageOf i) (λ (bytes : List ℕ). putAt room (st .position) bytes (stateWith (st .position + length bytes) (st .pages + 1) (st .shapes + length (i .registers)) false))
+          ≡ on (pageWritten i) (λ (bytes : List ℕ). putAt room (st .position) bytes (stateWith (st .position + length bytes) (st .pages + 1) (st .shapes + length (i .registers)) false))
       unfolding pageStepOf pagesRule
       page-rest k = on-value _ _ tt (opened st o) ∙ on-value _ _ tt (rule-holds _ table.many (rw (lt-ltb (st .pages) 1024 h, le-leb (st .shapes) 262144 k)))
 

@@ -14,10 +14,11 @@ use Rattle.answer.specs.Rule.{rule, judged, passed}
 use Rattle.le.specs.Number.{bytesOf}
 use Rattle.frame.specs.Whole.{blockOf, endBlock}
 use Rattle.pageblock.specs.Body.{Handed}
-use Rattle.pageblock.specs.Page.{pageOf}
+use Rattle.pageblock.specs.Page.{pageWritten}
 use Rattle.writer.specs.declared.Writer.{Writer}
 use Rattle.writer.specs.declared.Stepped.{Stepped}
 
+-- a state: position, pages, shapes, closed or not
 abbrev pub stateWith : ℕ → ℕ → ℕ → Bool → Writer
 stateWith position pages shapes closed = record { position = position; pages = pages; shapes = shapes; closed = closed }
 
@@ -56,7 +57,7 @@ unfoldable pub pageStepOf : Writer → ℕ → Handed → Out Added
 pageStepOf st room i =
     on (openRule st) (λ _.
     on (pagesRule st) (λ _.
-    on (pageOf i) (λ bytes.
+    on (pageWritten i) (λ bytes.
     putAt room (st .position) bytes (stateWith (st .position + length bytes) (st .pages + 1) (st .shapes + length (i .registers)) false))))
 
 -- ---- close
@@ -90,6 +91,8 @@ pub record Steps (o : Out Added) (st : Writer) (d : List ℕ) (r : Stepped) (lef
   pub verdict : judged (r .verdict) ≡ passed o
   pub state : r .writer ≡ stateAfter o st
   pub buffer : left ≡ bufferAfter o d
+
+-- ---- for an inner step; no service speaks of it
 
 -- where the part of a buffer that a page may fill starts: at the position, or at the end where that lies past it
 unfoldable pub startOf : ℕ → ℕ → ℕ

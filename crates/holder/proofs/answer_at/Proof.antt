@@ -39,11 +39,11 @@ use Rattle.column.specs.declared.Position.{Position}
 use Rattle.column.proofs.Position as P
 use Rattle.column.proofs.Position.Laws as P′
 use Rattle.reader.specs.declared.Answer.{Answer}
-use Rattle.reader.specs.Next.{nextOf, answered}
+use Rattle.reader.specs.Next.{nextOf, answerWith}
 use Rattle.reader.proofs.Answer as S
 use Rattle.reader.proofs.Answer.Laws as S′
 use Rattle.holder.specs.declared.Reader.{Reader}
-use Rattle.holder.specs.Held.{opened, movedTo, answerOf}
+use Rattle.holder.specs.Held.{newReader, movedTo, heldAnswer}
 use Rattle.holder.proofs.Holding.{B, Held, local, bytes, Bytes, IsPosition, PositionTyped, slice-stays, number-stays, position-stays}
 use Rattle.holder.proofs.Holding.{position-typed, position-made, slice-goes, number-goes, position-goes}
 use Rattle.holder.proofs.Reader as T
@@ -85,7 +85,7 @@ module _ {M : Type 1} (𝓤 : URA M) (H : Heap 𝓤) (A : Atoms 𝓤) (W : Given
   at = (bytes s ∷ [], (vint w64 n ∷ [], (P′.lowered p ∷ [], tt)))
 
   abbrev found : Answer
-  found = answered p (nextOf 64 (now s) n p)
+  found = answerWith p (nextOf 64 (now s) n p)
 
   abbrev Entry : SProp 𝓤
   Entry = onEntry 𝓤 H A over.signature (κ, tt) (q, tt) (s, (n, (p, tt))) at
@@ -112,8 +112,8 @@ module _ {M : Type 1} (𝓤 : URA M) (H : Heap 𝓤) (A : Atoms 𝓤) (W : Given
       (qed W ((‵ (flft κ q) ⊛ ‵ ftrue) ∷ ‵ (owns (ShrSlice (named 0) κ u8 ∷ usize ∷ []) (s, (n, tt)) at-new) ∷ []) ∵ join ! $ frame ! $ done !) $
       frame ! $ done !
 
-  new-said : (r : Reader) → ent 𝓤 (ensured 𝓤 H A new.ended (new.clauses 𝓤 H A mem run) (κ, tt) (s, (n, tt)) tt r) (fact 𝓤 (r ≡ opened s n))
-  new-said r = exE 𝓤 _ (λ ws. snd∗ 𝓤 (sem 𝓤 H A (lasts new.ended (κ, tt) (s, (n, tt)) ws)) (fact 𝓤 (r ≡ opened s n)))
+  new-said : (r : Reader) → ent 𝓤 (ensured 𝓤 H A new.ended (new.clauses 𝓤 H A mem run) (κ, tt) (s, (n, tt)) tt r) (fact 𝓤 (r ≡ newReader s n))
+  new-said r = exE 𝓤 _ (λ ws. snd∗ 𝓤 (sem 𝓤 H A (lasts new.ended (κ, tt) (s, (n, tt)) ws)) (fact 𝓤 (r ≡ newReader s n)))
 
   -- the call of `moved`, at the struct r with the machine value u, and the position p
   abbrev to-moved : Reader → Val → Moved 𝓤 H A mem run .Ghost
@@ -138,8 +138,8 @@ module _ {M : Type 1} (𝓤 : URA M) (H : Heap 𝓤) (A : Atoms 𝓤) (W : Given
       qed W (‵ (Held κ r u) ∷ (‵ (flft κ q) ⊛ ‵ ftrue) ∷ []) ∵
       nothing ! $ move ! (1 ∷ 0 ∷ []) $ fjoin ! $ move ! (1 ∷ 0 ∷ []) $ join ! $ frame ! $ done !
 
-  next-said : (r : Reader) (t : Answer) → ent 𝓤 (ensured 𝓤 H A next.ended (next.clauses 𝓤 H A mem run) (κ, tt) (r, tt) tt t) (fact 𝓤 (t ≡ answerOf r))
-  next-said r t = exE 𝓤 _ (λ ws. snd∗ 𝓤 (sem 𝓤 H A (lasts next.ended (κ, tt) (r, tt) ws)) (fact 𝓤 (t ≡ answerOf r)))
+  next-said : (r : Reader) (t : Answer) → ent 𝓤 (ensured 𝓤 H A next.ended (next.clauses 𝓤 H A mem run) (κ, tt) (r, tt) tt t) (fact 𝓤 (t ≡ heldAnswer r))
+  next-said r t = exE 𝓤 _ (λ ws. snd∗ 𝓤 (sem 𝓤 H A (lasts next.ended (κ, tt) (r, tt) ws)) (fact 𝓤 (t ≡ heldAnswer r)))
 
   exits : (t : Answer) (u : Val) → t ≡ found
       → ent 𝓤 (⋆ 𝓤 H A (‵ (S.the-row .own t (u ∷ [])) ∷ (‵ (flft κ q) ⊛ ‵ ftrue) ∷ ‵ (Bytes κ s) ∷ [])) (Post u)
@@ -167,7 +167,7 @@ module _ {M : Type 1} (𝓤 : URA M) (H : Heap 𝓤) (A : Atoms 𝓤) (W : Given
         (and-then ! (load ! (from ! (stop !)) (look ! 10 refl)) (and-then ! (load ! (from ! (stop !)) (look ! 8 refl)) (no-more !))) (λ u.
         use1 W (later (some (λ (r : Reader). ((‵ (flft κ q) ⊛ ‵ ftrue) ⊛ ‵ (Held κ r u))
         ⊛ raw (ensured 𝓤 H A new.ended (new.clauses 𝓤 H A mem run) (κ, tt) (s, (n, tt)) tt r)))) (id⊢ 𝓤 _) $ await ! tt $ pick ! (λ r.
-        split ! $ move ! (1 ∷ []) $ use1 W (raw (fact 𝓤 (r ≡ opened s n))) (new-said r) $ heard ! (r ≡ opened s n) (λ e. split ! $ move ! (1 ∷ []) $
+        split ! $ move ! (1 ∷ []) $ use1 W (raw (fact 𝓤 (r ≡ newReader s n))) (new-said r) $ heard ! (r ≡ newReader s n) (λ e. split ! $ move ! (1 ∷ []) $
         -- [what the struct owns; the token; what s owns; room for _5; …; room for _4; …; _3; …; _2; …; _1; …; room for _0; …]
         peeks ! (B (κ, tt)) (Is (B (κ, tt))) (shows 𝓤 H A (B (κ, tt))) r (u ∷ []) (λ is₁.
         land ! (from ! (stop !)) (init ! 3 refl (LL.lawful (T.the-type (local κ)) (T′.the-laws (local κ)) 𝓤 H A W .typed r _ is₁ .0)) $
@@ -184,14 +184,14 @@ module _ {M : Type 1} (𝓤 : URA M) (H : Heap 𝓤) (A : Atoms 𝓤) (W : Given
         calls-at ! fm (Next 𝓤 H A mem run) known-next (to-next r′ u₂) (and-then ! (load ! (from ! (stop !)) (look ! 4 refl)) (no-more !)) (λ u₃.
         use1 W (later (some (λ (t : Answer). ((‵ (flft κ q) ⊛ ‵ ftrue) ⊛ ‵ (S.the-row .own t (u₃ ∷ [])))
         ⊛ raw (ensured 𝓤 H A next.ended (next.clauses 𝓤 H A mem run) (κ, tt) (r′, tt) tt t)))) (id⊢ 𝓤 _) $ await ! tt $ pick ! (λ t.
-        split ! $ move ! (1 ∷ []) $ use1 W (raw (fact 𝓤 (t ≡ answerOf r′))) (next-said r′ t) $ heard ! (t ≡ answerOf r′) (λ e′. split ! $ move ! (1 ∷ []) $
+        split ! $ move ! (1 ∷ []) $ use1 W (raw (fact 𝓤 (t ≡ heldAnswer r′))) (next-said r′ t) $ heard ! (t ≡ heldAnswer r′) (λ e′. split ! $ move ! (1 ∷ []) $
         -- [the result; the token; what s owns; _5; …; _4; …; _3; …; _2; …; _1; …; room for _0; …]
         peeks ! S.the-row (Is S.the-row) (shows 𝓤 H A S.the-row) t (u₃ ∷ []) (λ is₃.
         land ! (from ! (stop !)) (init ! 13 refl (EL.lawful S.the-type S′.the-laws 𝓤 H A W tt .typed t _ is₃ .0)) $
         returns ! (look ! 13 refl) $ forget ! 3 refl $ forget ! 5 refl $ forget ! 7 refl $ forget ! 9 refl $ forget ! 11 refl $ forget ! 13 refl $
         move ! (13 ∷ 14 ∷ []) $ free1 ! $ move ! (11 ∷ 12 ∷ []) $ free1 ! $ move ! (9 ∷ 10 ∷ []) $ free1 ! $ move ! (7 ∷ 8 ∷ []) $ free1 ! $
         move ! (5 ∷ 6 ∷ []) $ free1 ! $ move ! (3 ∷ 4 ∷ []) $ free1 ! $ free0 ! $
-        by ! (exits t u₃ (e′ ∙ ap answerOf (m ∙ ap (λ (x : Reader). movedTo x p) e)))))))))))))))))))))
+        by ! (exits t u₃ (e′ ∙ ap heldAnswer (m ∙ ap (λ (x : Reader). movedTo x p) e)))))))))))))))))))))
 
 module _ {M : Type 1} (𝓤 : URA M) (H : Heap 𝓤) (A : Atoms 𝓤) (W : Given 𝓤 H A) (mem : Memory → SProp 𝓤) (run : Routine → Fun 𝓤) where
   over-walks : (C : Calls 𝓤 H) (Λ : Loops 𝓤 H) → FmC 𝓤 H (W .laws) C → Triple 𝓤 (C #holder·new) (New 𝓤 H A mem run)

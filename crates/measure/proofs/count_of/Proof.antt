@@ -1,8 +1,8 @@
--- `count_of` is `countOf`, case by case. Assumes nothing.
+-- `count_of` is `filledCount`, case by case. Assumes nothing.
 use mathlib.Core.Path.{sym, ap, _∙_}
 use Prim.Native.Nat.{ℕ, _*_, _^_}
 use borrow.Author.Needs.{needs}
-use Rattle.measure.specs.Answers.{countOf}
+use Rattle.measure.specs.Answers.{filledCount}
 use Rattle.measure.proofs.count_of.Statement.{statement}
 use Rattle.measure.proofs.count_of.Tie as tie
 
@@ -19,12 +19,12 @@ mul-result : tie.Need-mul-result
 mul-result c = search needs
 
 returns : tie.Need-returns
-unfolding countOf
-returns c = sym (ap countOf (c .before .f .given .1))
+unfolding filledCount
+returns c = sym (ap filledCount (c .before .f .given .1))
 
 returns-2 : tie.Need-returns-2
-unfolding countOf
-returns-2 c = ap (λ (x : ℕ). x * 2 ^ 32) (c .wide .ensures) ∙ sym (ap countOf (c .before .before .f2 .given .1))
+unfolding filledCount
+returns-2 c = ap (λ (x : ℕ). x * 2 ^ 32) (c .wide .ensures) ∙ sym (ap filledCount (c .before .before .f2 .given .1))
 
 pub count-of-spec : {M : Type 1} → statement M
 count-of-spec = tie.close (tie.spec enum-known-f enum-known-f-2 wide-requires mul-result returns returns-2)

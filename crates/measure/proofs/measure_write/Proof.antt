@@ -1,7 +1,7 @@
 -- `measure_write` gives the count of what `column::write::write` answers, and leaves its room. Assumes nothing.
 use mathlib.Core.Path.{ap, _∙_}
 use borrow.Author.Needs.{needs}
-use Rattle.measure.specs.Answers.{countOf}
+use Rattle.measure.specs.Answers.{filledCount}
 use Rattle.measure.proofs.measure_write.Statement.{statement}
 use Rattle.measure.proofs.measure_write.Tie as tie
 
@@ -17,7 +17,7 @@ same-length c = search needs
 returns : tie.Need-returns
 returns c =
     let q = c .before .before .before .write .ensures in
-    (c .count-of .ensures ∙ ap countOf (q .answer), q .room)
+    (c .count-of .ensures ∙ ap filledCount (q .answer), q .room)
 
 pub measure-write-spec : {M : Type 1} → statement M
 measure-write-spec = tie.close (tie.spec write-requires count-of-requires same-length returns)

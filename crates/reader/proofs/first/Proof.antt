@@ -3,7 +3,7 @@ use mathlib.Core.Path.{sym, ap, ap₂, _∙_}
 use Prim.Native.Nat.{ℕ}
 use native.Mathlib.Omega.{arith}
 use Rattle.answer.specs.Table as Table
-use Rattle.reader.specs.Next.{answered, value, position}
+use Rattle.reader.specs.Next.{answerWith, value, position}
 use Rattle.reader.specs.declared.Answer.{Answer}
 use Rattle.reader.specs.declared.Answer.the-variants.{Value}
 use Rattle.reader.proofs.Calls.{said-refused, said-value, first-none, first-empty, first-wide, first-short, first-value}
@@ -17,7 +17,7 @@ end-at-requires c κs = search needs
 returns : tie.Need-returns
 returns c =
     let a = c .before .before .before .args in
-    c .end-at .ensures ∙ sym (ap (answered (a .p)) (first-none 64 (a .s .now) (a .n) (c .before .if1 .taken)))
+    c .end-at .ensures ∙ sym (ap (answerWith (a .p)) (first-none 64 (a .s .now) (a .n) (c .before .if1 .taken)))
 
 refused-requires : tie.Need-refused-requires
 refused-requires c κs = search needs

@@ -6,7 +6,7 @@ use lib.ListN.{length}
 use Rattle.answer.specs.Table as Table
 use Rattle.le.specs.Number.{number}
 use Rattle.entry.specs.Entry.{sizeAt}
-use Rattle.reader.specs.Next.{answered, position}
+use Rattle.reader.specs.Next.{answerWith, position}
 use Rattle.reader.specs.declared.Answer.the-variants.{Value}
 use Rattle.reader.proofs.Calls.{said-refused, said-value, later-wide, later-past, later-end, later-short, later-over, later-value, over-yes, over-no}
 use borrow.Author.Needs.{needs}
@@ -38,7 +38,7 @@ end-at-requires c κs = search needs
 returns-3 : tie.Need-returns-3
 returns-3 c =
     let st = c .before .before .before .before .before .before .before in
-    c .end-at .ensures ∙ sym (ap (answered (st .args .p)) (later-end 64 (st .args .s .now) (st .args .n) (st .args .p) (c .before .before .before .before .before .if1 .left) (omega (arith, c .before .before .before .before .whole-bytes .ensures, c .before .before .before .if2 .left)) (c .before .if3 .taken)))
+    c .end-at .ensures ∙ sym (ap (answerWith (st .args .p)) (later-end 64 (st .args .s .now) (st .args .n) (st .args .p) (c .before .before .before .before .before .if1 .left) (omega (arith, c .before .before .before .before .whole-bytes .ensures, c .before .before .before .if2 .left)) (c .before .if3 .taken)))
 
 marker-requires : tie.Need-marker-requires
 marker-requires c κs = search needs

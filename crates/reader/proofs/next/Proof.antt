@@ -1,7 +1,7 @@
 -- `reader::next` gives the call's answer: 3, the first value's, or a later one's. Assumes nothing.
 use mathlib.Core.Path.{sym, ap, _∙_}
 use Rattle.answer.specs.Table as Table
-use Rattle.reader.specs.Next.{answered}
+use Rattle.reader.specs.Next.{answerWith}
 use Rattle.reader.proofs.Calls.{said-refused, next-many, next-first, next-later}
 use borrow.Author.Needs.{needs}
 use Rattle.reader.proofs.next.Statement.{statement}
@@ -24,12 +24,12 @@ later-requires c κs = search needs
 returns-2 : tie.Need-returns-2
 returns-2 c =
     let a = c .before .before .before .before .args in
-    c .first .ensures ∙ sym (ap (answered (a .p)) (next-first 64 (a .s .now) (a .n) (a .p) (c .before .before .if1 .left) (c .before .if2 .taken)))
+    c .first .ensures ∙ sym (ap (answerWith (a .p)) (next-first 64 (a .s .now) (a .n) (a .p) (c .before .before .if1 .left) (c .before .if2 .taken)))
 
 returns-3 : tie.Need-returns-3
 returns-3 c =
     let a = c .before .before .before .before .args in
-    c .later .ensures ∙ sym (ap (answered (a .p)) (next-later 64 (a .s .now) (a .n) (a .p) (c .before .before .if1 .left) (c .before .if2 .left)))
+    c .later .ensures ∙ sym (ap (answerWith (a .p)) (next-later 64 (a .s .now) (a .n) (a .p) (c .before .before .if1 .left) (c .before .if2 .left)))
 
 pub next-spec : {M : Type 1} → statement M
 next-spec =

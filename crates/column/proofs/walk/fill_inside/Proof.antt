@@ -4,7 +4,8 @@ use Prim.Native.Nat.{_+_, _-_, _*_, _≤_, _<_}
 use native.Mathlib.Omega.{arith}
 use borrow.Author.Needs.{needs}
 use Rattle.le.specs.Number.{number}
-use Rattle.column.specs.Filling.{position, Went}
+use Rattle.column.specs.Position.{position}
+use Rattle.column.specs.Filling.{Went}
 use Rattle.column.proofs.Filling.{went-none, went-again}
 use Rattle.column.proofs.walk.fill_inside.Statement.{statement}
 use Rattle.column.proofs.walk.fill_inside.Tie as tie

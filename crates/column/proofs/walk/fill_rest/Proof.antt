@@ -4,7 +4,8 @@ use native.Mathlib.Omega.{arith}
 use borrow.Author.Needs.{needs}
 use Rattle.le.specs.Number.{number}
 use Rattle.entry.proofs.Reading.{size-le}
-use Rattle.column.specs.Filling.{position, Went}
+use Rattle.column.specs.Position.{position}
+use Rattle.column.specs.Filling.{Went}
 use Rattle.column.proofs.Filling.{went-none, went-more}
 use Rattle.column.proofs.walk.fill_rest.Statement.{statement}
 use Rattle.column.proofs.walk.fill_rest.Tie as tie

@@ -4,9 +4,9 @@ use mathlib.Core.Bool.{true}
 use Prim.Native.Nat.{ℕ, _-_, _<_}
 use native.Mathlib.Omega.{arith}
 use lib.ListN.{length, getD}
+use Rattle.answer.proofs.Alls.{all-at}
 use Rattle.extent.specs.Rank.{finite}
 use Rattle.extent.specs.Boxes.{patterns}
-use Rattle.extent.proofs.Finite.{all-finite-at}
 use Rattle.extent.proofs.Boxing.{Boxing, boxing-first, boxing-more, boxing-done}
 use Rattle.extent.proofs.boxes.box_of.Statement.{statement}
 use Rattle.extent.proofs.boxes.box_of.Tie as tie
@@ -19,10 +19,10 @@ abbrev μ-loop : tie.MeasureT-loop
 
 -- each vertex is finite
 x-finite : (s : tie.Start Inv-loop μ-loop) (i : ℕ) → i < length (s .args .xs .now) → finite (getD (s .args .xs .now) i 0) ≡ true
-x-finite s i h = all-finite-at (s .args .xs .now) i (s .pre .2) h
+x-finite s i h = all-at finite (s .args .xs .now) i 0 (s .pre .2) h
 
 y-finite : (s : tie.Start Inv-loop μ-loop) (i : ℕ) → i < length (s .args .xs .now) → finite (getD (s .args .ys .now) i 0) ≡ true
-y-finite s i h = all-finite-at (s .args .ys .now) i (s .pre .3) (omega (arith, s .pre .1))
+y-finite s i h = all-at finite (s .args .ys .now) i 0 (s .pre .3) (omega (arith, s .pre .1))
 
 shared-slice-read-spot : tie.Need-shared-slice-read-spot Inv-loop μ-loop
 shared-slice-read-spot c = omega arith

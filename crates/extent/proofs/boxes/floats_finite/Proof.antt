@@ -2,20 +2,20 @@
 use mathlib.Core.Path.{_≡_, sym, _∙_}
 use mathlib.Core.Bool.{true}
 use Rattle.extent.specs.Rank.{finite}
-use Rattle.extent.specs.Boxes.{bitsOf, fourFinite}
+use Rattle.extent.specs.Boxes.{patternOf, fourFinite}
 use Rattle.extent.proofs.Tests.{passed-three, failed-third, failed-second, failed-first}
 use borrow.Author.Needs.{needs}
 use Rattle.extent.proofs.boxes.floats_finite.Statement.{statement}
 use Rattle.extent.proofs.boxes.floats_finite.Tie as tie
 
 -- the first three, where they passed
-f1 : (c : tie.Then1) → finite (bitsOf (c .before .before .args .b .«least_x»)) ≡ true
+f1 : (c : tie.Then1) → finite (patternOf (c .before .before .args .b .«least_x»)) ≡ true
 f1 c = sym (c .before .finite-float .ensures) ∙ c .if1 .taken
 
-f2 : (c : tie.Then2) → finite (bitsOf (c .before .before .before .before .args .b .«least_y»)) ≡ true
+f2 : (c : tie.Then2) → finite (patternOf (c .before .before .before .before .args .b .«least_y»)) ≡ true
 f2 c = sym (c .before .finite-float2 .ensures) ∙ c .if2 .taken
 
-f3 : (c : tie.Then3) → finite (bitsOf (c .before .before .before .before .before .before .args .b .«greatest_x»)) ≡ true
+f3 : (c : tie.Then3) → finite (patternOf (c .before .before .before .before .before .before .args .b .«greatest_x»)) ≡ true
 f3 c = sym (c .before .finite-float3 .ensures) ∙ c .if3 .taken
 
 finite-float-requires : tie.Need-finite-float-requires

@@ -3,12 +3,12 @@ use mathlib.Core.Path.{_≡_, sym, _∙_}
 use borrow.Author.Needs.{needs}
 use lib.Ieee.{lt}
 use Rattle.extent.specs.Rank.{below}
-use Rattle.extent.specs.Boxes.{bitsOf, greater}
+use Rattle.extent.specs.Boxes.{patternOf, greater}
 use Rattle.extent.proofs.Order.{lt-float}
 use Rattle.extent.proofs.boxes.greater_of.Statement.{statement}
 use Rattle.extent.proofs.boxes.greater_of.Tie as tie
 
-test : (c : tie.Start) → lt (c .args .a) (c .args .x) ≡ below (bitsOf (c .args .a)) (bitsOf (c .args .x))
+test : (c : tie.Start) → lt (c .args .a) (c .args .x) ≡ below (patternOf (c .args .a)) (patternOf (c .args .x))
 test c = lt-float _ _ (search needs) (search needs) (c .pre .0) (c .pre .1)
 
 returns : tie.Need-returns

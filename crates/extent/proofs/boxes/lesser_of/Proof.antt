@@ -3,12 +3,12 @@ use mathlib.Core.Path.{_≡_, sym, _∙_}
 use borrow.Author.Needs.{needs}
 use lib.Ieee.{lt}
 use Rattle.extent.specs.Rank.{below}
-use Rattle.extent.specs.Boxes.{bitsOf, lesser}
+use Rattle.extent.specs.Boxes.{patternOf, lesser}
 use Rattle.extent.proofs.Order.{lt-float}
 use Rattle.extent.proofs.boxes.lesser_of.Statement.{statement}
 use Rattle.extent.proofs.boxes.lesser_of.Tie as tie
 
-test : (c : tie.Start) → lt (c .args .x) (c .args .a) ≡ below (bitsOf (c .args .x)) (bitsOf (c .args .a))
+test : (c : tie.Start) → lt (c .args .x) (c .args .a) ≡ below (patternOf (c .args .x)) (patternOf (c .args .a))
 test c = lt-float _ _ (search needs) (search needs) (c .pre .1) (c .pre .0)
 
 returns : tie.Need-returns

@@ -3,14 +3,14 @@ use mathlib.Core.Path.{_≡_, refl, sym, _∙_}
 use Prim.Native.Nat.{_-_, _≤_}
 use native.Mathlib.Omega.{arith}
 use borrow.Author.Needs.{needs}
-use lib.ListN.{length, drop}
-use Rattle.extent.specs.Rank.{allFinite}
-use Rattle.extent.proofs.Finite.{finite-none, finite-next, finite-not}
+use lib.ListN.{length, drop, drop-of-length-le}
+use Rattle.answer.proofs.Alls.{stands, all-more, all-stop, all-done}
+use Rattle.extent.specs.Rank.{finite, allFinite}
 use Rattle.extent.proofs.rank.all_finite.Statement.{statement}
 use Rattle.extent.proofs.rank.all_finite.Tie as tie
 
 abbrev Inv-loop : tie.InvT-loop
-Inv-loop vs i₀ i = (i ≤ length vs) × (allFinite vs ≡ allFinite (drop i vs))
+Inv-loop vs i₀ i = (i ≤ length vs) × (allFinite (drop i vs) ≡ allFinite vs)
 
 abbrev μ-loop : tie.MeasureT-loop
 μ-loop vs i₀ i = length vs - i
@@ -37,18 +37,19 @@ loop-again : tie.Need-loop-again Inv-loop μ-loop
 loop-again c =
     let vs = c .before .before .before .before .before .before .args .vs .now in
     let l = c .before .before .before .before .loop in
-    (omega arith, l .inv .1 ∙ finite-next vs (l .i) (omega arith) (sym (c .before .finite .ensures) ∙ c .if1 .taken))
+    (omega arith, all-more finite vs (l .i) _ (stands vs (l .i) 0 (omega arith)) (sym (c .before .finite .ensures) ∙ c .if1 .taken) (l .inv .1))
 
 returns : tie.Need-returns Inv-loop μ-loop
 returns c =
     let vs = c .before .before .before .before .before .before .args .vs .now in
     let l = c .before .before .before .before .loop in
-    sym (l .inv .1 ∙ finite-not vs (l .i) (omega arith) (sym (c .before .finite .ensures) ∙ c .if1 .left))
+    all-stop finite vs (l .i) _ (stands vs (l .i) 0 (omega arith)) (sym (c .before .finite .ensures) ∙ c .if1 .left) (l .inv .1)
 
 returns-2 : tie.Need-returns-2 Inv-loop μ-loop
 returns-2 c =
+    let vs = c .before .before .before .args .vs .now in
     let l = c .before .loop in
-    sym (l .inv .1 ∙ finite-none (c .before .before .before .args .vs .now) (l .i) (omega arith))
+    all-done finite vs (l .i) (drop-of-length-le vs {i = l .i} (omega arith)) (l .inv .1)
 
 pub all-finite-spec : {M : Type 1} → statement M
 all-finite-spec =

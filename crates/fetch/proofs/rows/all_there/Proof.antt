@@ -5,8 +5,8 @@ use native.Mathlib.Omega.{arith}
 use borrow.Author.Tests.{lt-ltb, le-ltb}
 use lib.Dec.{ltb}
 use lib.ListN.{length, getD, drop, drop-of-length-le}
-use Rattle.types.specs.Every.{allOf}
-use Rattle.types.proofs.Alls.{stands, all-more, all-stop, all-done}
+use Rattle.answer.specs.Every.{allOf}
+use Rattle.answer.proofs.Alls.{stands, all-more, all-stop, all-done}
 use Rattle.fetch.proofs.rows.all_there.Statement.{statement}
 use Rattle.fetch.proofs.rows.all_there.Tie as tie
 

@@ -9,10 +9,10 @@ use lib.IntN.{ℤ, natAbs, _+ℤ_}
 use lib.ListN.{length, getD}
 use mir.Syntax.{w64}
 use mir.Val.{SFits, toZ, ofZ}
+use Rattle.answer.proofs.Alls.{all-at}
 use Rattle.grid.specs.Grid.{onGrid, wholeOf}
 use Rattle.grid.specs.Turn.{edge}
 use Rattle.grid.proofs.Sizes.{fits-64, back-64}
-use Rattle.grid.proofs.OnGrid.{all-on-grid-at}
 use Rattle.grid.proofs.Turns.{edge-fits, Turning, turning-first, turning-more, turning-done, turning-none}
 use Rattle.grid.proofs.turning.turn.Statement.{statement}
 use Rattle.grid.proofs.turning.turn.Tie as tie
@@ -25,10 +25,10 @@ abbrev μ-loop : tie.MeasureT-loop
 
 -- each vertex is on grid
 x-on : (s : tie.Start Inv-loop μ-loop) (i : ℕ) → i < length (s .args .xs .now) → onGrid (getD (s .args .xs .now) i 0) ≡ true
-x-on s i h = all-on-grid-at (s .args .xs .now) i (s .pre .2) h
+x-on s i h = all-at onGrid (s .args .xs .now) i 0 (s .pre .2) h
 
 y-on : (s : tie.Start Inv-loop μ-loop) (i : ℕ) → i < length (s .args .xs .now) → onGrid (getD (s .args .ys .now) i 0) ≡ true
-y-on s i h = all-on-grid-at (s .args .ys .now) i (s .pre .3) (omega (arith, s .pre .0))
+y-on s i h = all-at onGrid (s .args .ys .now) i 0 (s .pre .3) (omega (arith, s .pre .0))
 
 -- a vertex's whole number is read back from its bits
 vertex : (r : ℤ) (b : ℕ) → (r ≡ wholeOf b) × (natAbs r ≤ 2 ^ 24) → (toZ w64 (ofZ w64 r) ≡ wholeOf b) × (natAbs (toZ w64 (ofZ w64 r)) ≤ 2 ^ 24)

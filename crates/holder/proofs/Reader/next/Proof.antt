@@ -40,7 +40,7 @@ use denote.Triple.Clauses.{ensured, lasts}
 use Rattle.column.proofs.Position as P
 use Rattle.column.proofs.Position.Laws as P′
 use Rattle.reader.specs.declared.Answer.{Answer}
-use Rattle.reader.specs.Next.{nextOf, answered}
+use Rattle.reader.specs.Next.{nextOf, answerWith}
 use Rattle.reader.proofs.Answer as S
 use Rattle.reader.proofs.Answer.Laws as S′
 use Rattle.reader.proofs.next as step
@@ -69,7 +69,7 @@ module _ {M : Type 1} (𝓤 : URA M) (H : Heap 𝓤) (A : Atoms 𝓤) (W : Given
   mach = T′.lowered d
 
   abbrev found : Answer
-  found = answered (d .pos) (nextOf 64 (now (d .src)) (d .n) (d .pos))
+  found = answerWith (d .pos) (nextOf 64 (now (d .src)) (d .n) (d .pos))
 
   abbrev Entry : SProp 𝓤
   Entry = onEntry 𝓤 H A next.signature (κ, tt) (q, tt) (d, tt) (mach ∷ [], tt)

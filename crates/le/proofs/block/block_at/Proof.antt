@@ -1,7 +1,7 @@
 -- `block_at` reads the block where it is present. Assumes nothing.
 use mathlib.Core.Path.{sym, _∙_}
 use borrow.Author.Needs.{needs}
-use Rattle.le.specs.Block.{said}
+use Rattle.le.specs.Block.{saidBlock}
 use Rattle.le.proofs.Blocks.{block-absent}
 use Rattle.le.proofs.block.block_at.Statement.{statement}
 use Rattle.le.proofs.block.block_at.Tie as tie
@@ -13,7 +13,7 @@ block-in-requires : tie.Need-block-in-requires
 block-in-requires c κs = sym (c .before .present .ensures) ∙ c .if1 .taken
 
 returns : tie.Need-returns
-unfolding said
+unfolding saidBlock
 returns c = sym (c .block-in .ensures)
 
 short-requires : tie.Need-short-requires

@@ -2,7 +2,7 @@
 use mathlib.Core.Path.{ap}
 use borrow.Author.Needs.{needs}
 use Rattle.answer.specs.Outcome.{refused}
-use Rattle.le.specs.Block.{said}
+use Rattle.le.specs.Block.{saidBlock}
 use Rattle.le.proofs.block.short.Statement.{statement}
 use Rattle.le.proofs.block.short.Tie as tie
 
@@ -10,7 +10,7 @@ because-requires : tie.Need-because-requires
 because-requires c κs = search needs
 
 returns : tie.Need-returns
-unfolding said
+unfolding saidBlock
 returns c = ap refused (c .because .ensures)
 
 pub short-spec : {M : Type 1} → statement M

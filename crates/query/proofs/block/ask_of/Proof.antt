@@ -1,6 +1,6 @@
 -- `query::block::ask_of` finds the block's length, tests that nothing follows, and reads what is asked. Assumes nothing.
 use mathlib.Core.Path.{sym, ap, _∙_}
-use Rattle.query.specs.Block.{saidLen, said}
+use Rattle.query.specs.Block.{saidLen, saidAsk}
 use Rattle.query.proofs.Blocks.{ask-exactly, ask-longer, ask-refused}
 use borrow.Author.Needs.{needs}
 use Rattle.query.proofs.block.ask_of.Statement.{statement}
@@ -30,7 +30,7 @@ unfolding saidLen
 returns-2 c = c .unsound .ensures ∙ sym (ask-longer _ _ (sym (c .before .before .before .before .before .block-len .ensures) ∙ ap saidLen (c .before .before .before .len .given .1)) (c .before .if1 .left))
 
 returns-3 : tie.Need-returns-3
-unfolding saidLen said
+unfolding saidLen saidAsk
 returns-3 c = sym (ask-refused _ _ (sym (c .before .before .before .block-len .ensures) ∙ ap saidLen (c .before .len2 .given .1)))
 
 pub ask-of-spec : {M : Type 1} → statement M

@@ -1,13 +1,13 @@
 -- `query::block::asked` goes by the length, as the definition does. Assumes nothing.
 use mathlib.Core.Path.{sym, ap₂, _∙_}
-use Rattle.query.specs.Block.{spotAsked, said}
+use Rattle.query.specs.Block.{spotAsked, saidAsk}
 use Rattle.query.proofs.Blocks.{asked-everything, asked-spot, asked-window, asked-other}
 use borrow.Author.Needs.{needs}
 use Rattle.query.proofs.block.asked.Statement.{statement}
 use Rattle.query.proofs.block.asked.Tie as tie
 
 returns : tie.Need-returns
-unfolding said
+unfolding saidAsk
 returns c = sym (asked-everything _ (c .if1 .taken))
 
 u64-at-requires : tie.Need-u64-at-requires

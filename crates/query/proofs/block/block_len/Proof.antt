@@ -22,12 +22,12 @@ no-block-requires : tie.Need-no-block-requires
 no-block-requires c κs = search needs
 
 returns : tie.Need-returns
-unfolding le.said
-returns c = c .len-of .ensures ∙ sym (block-found _ _ (sym (c .before .before .before .before .block-at .ensures) ∙ ap le.said (c .before .before .found .given .1)))
+unfolding le.saidBlock
+returns c = c .len-of .ensures ∙ sym (block-found _ _ (sym (c .before .before .before .before .block-at .ensures) ∙ ap le.saidBlock (c .before .before .found .given .1)))
 
 returns-2 : tie.Need-returns-2
-unfolding le.said
-returns-2 c = c .no-block .ensures ∙ sym (block-refused _ _ (sym (c .before .before .before .block-at .ensures) ∙ ap le.said (c .before .enum-told .given .1)))
+unfolding le.saidBlock
+returns-2 c = c .no-block .ensures ∙ sym (block-refused _ _ (sym (c .before .before .before .block-at .ensures) ∙ ap le.saidBlock (c .before .enum-told .given .1)))
 
 pub block-len-spec : {M : Type 1} → statement M
 block-len-spec =

@@ -3,7 +3,7 @@ use mathlib.Core.Path.{_≡_, sym, _∙_}
 use mathlib.Core.Bool.{true, _&&_}
 use Rattle.answer.proofs.Both.{both-l, both-r}
 use Rattle.extent.specs.Rank.{finite}
-use Rattle.query.specs.Block.{said}
+use Rattle.query.specs.Block.{saidAsk}
 use Rattle.query.proofs.Blocks.{spot-made, spot-not}
 use borrow.Author.Needs.{needs}
 use Rattle.query.proofs.block.spot_asked.Statement.{statement}
@@ -23,7 +23,7 @@ float-of-requires-2 : tie.Need-float-of-requires-2
 float-of-requires-2 c κs = let a = c .before .before .before .args in both-r (finite (a .x)) (finite (a .y)) (passed (c .before))
 
 returns : tie.Need-returns
-unfolding said
+unfolding saidAsk
 returns c = spot-made _ _ _ _ (passed (c .before .before)) (c .before .float-of .ensures .0) (c .float-of2 .ensures .0)
 
 unsound-requires : tie.Need-unsound-requires

@@ -2,7 +2,7 @@
 use mathlib.Core.Path.{_≡_, sym, ap, _∙_}
 use Rattle.extent.specs.Boxes.{Bounds, boundsAt}
 use Rattle.extent.specs.Forms.{formOf}
-use Rattle.query.specs.Block.{said}
+use Rattle.query.specs.Block.{saidAsk}
 use Rattle.query.proofs.Blocks.{window-made, window-not}
 use borrow.Author.Needs.{needs}
 use Rattle.query.proofs.block.window_asked.Statement.{statement}
@@ -51,7 +51,7 @@ unsound-requires : tie.Need-unsound-requires
 unsound-requires c κs = search needs
 
 returns : tie.Need-returns
-unfolding said
+unfolding saidAsk
 returns c = window-made _ _ (sym (formed (c .before .before .before)) ∙ c .before .form .given .1)
 
 returns-2 : tie.Need-returns-2

@@ -5,7 +5,8 @@ use mathlib.Core.Bool.{Bool}
 use Prim.Native.Nat.{ℕ, _+_, _-_, _≤_, _<_}
 use native.Mathlib.Omega.{arith}
 use lib.ListN.{length, getD, take, drop}
-use Rattle.extent.proofs.Finite.{all-finite-part}
+use Rattle.answer.proofs.Alls.{all-part}
+use Rattle.extent.specs.Rank.{finite}
 use Rattle.types.specs.Parts.{total}
 use Rattle.shape.specs.Outline.{outlinesOf}
 use Rattle.shape.proofs.Walking.{Walking, walking-none, walking-counted, walking-parts, walking-there, outlineAt, walking-cut, walking-stands, walking-more, walking-end}
@@ -118,7 +119,7 @@ hit-requires c κs =
     let g = ap (λ (m : ℕ). l .at + m) (c .before .before .total .ensures) in
     let s = c .before .before .before .before .before .before .before .before .before .before .before .before .before in
     let o = walking-cut (a .types .now) (a .counts .now) (a .lens .now) (a .xs .now) (a .ys .now) (l .i) (l .k) (l .at) (l .inv .0) t e end refl g in
-    (s .pre .0, o .same, all-finite-part (l .at) (end - l .at) (a .xs .now) (s .pre .4), all-finite-part (l .at) (end - l .at) (a .ys .now) (s .pre .5))
+    (s .pre .0, o .same, all-part finite (l .at) (end - l .at) (a .xs .now) (s .pre .4), all-part finite (l .at) (end - l .at) (a .ys .now) (s .pre .5))
 
 add-note : tie.Need-add-note Inv-loop μ-loop
 add-note c = omega (arith, c .before .before .before .before .before .before .before .before .before .before .before .before .before .before .pre .1, c .before .before .before .before .before .before .loop-test .taken)

@@ -1,7 +1,7 @@
 -- `shape::ongrid::on_grid_shape` tests the coordinates of a MultiPolygon, and of no other shape. Assumes nothing.
 use mathlib.Core.Path.{sym, _∙_}
 use borrow.Author.Tests.{eq-eqb, ne-eqb}
-use Rattle.types.proofs.Both.{first-fails, then}
+use Rattle.answer.proofs.Both.{first-fails, then}
 use Rattle.shape.specs.Rules.{onGridShape}
 use Rattle.shape.proofs.OnlyIf.{skipped, decides}
 use borrow.Author.Needs.{needs}

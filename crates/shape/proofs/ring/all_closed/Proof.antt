@@ -4,8 +4,8 @@ use Prim.Native.Nat.{_+_, _-_, _≤_}
 use native.Mathlib.Omega.{arith}
 use borrow.Author.Tests.{not-true, not-false}
 use lib.ListN.{length, getD, drop}
-use Rattle.types.specs.Every.{allOf}
-use Rattle.types.proofs.Alls.{all-more, all-stop, all-done}
+use Rattle.answer.specs.Every.{allOf}
+use Rattle.answer.proofs.Alls.{all-more, all-stop, all-done}
 use Rattle.shape.specs.Outline.{partsOf}
 use Rattle.shape.specs.Rules.{closedRing}
 use Rattle.shape.proofs.Cuts.{same-part}

@@ -1,6 +1,6 @@
 -- `shape::rules::both_finite` tests the x and then the y. Assumes nothing.
 use mathlib.Core.Path.{sym, _∙_}
-use Rattle.types.proofs.Both.{first-fails, then}
+use Rattle.answer.proofs.Both.{first-fails, then}
 use borrow.Author.Needs.{needs}
 use Rattle.shape.proofs.rules.both_finite.Statement.{statement}
 use Rattle.shape.proofs.rules.both_finite.Tie as tie

@@ -4,9 +4,9 @@ use Prim.Native.Nat.{ℕ, _+_, _-_, _≤_, _<_}
 use native.Mathlib.Omega.{arith}
 use borrow.Author.Tests.{not-true, not-false}
 use lib.ListN.{length, getD, take, drop}
-use Rattle.types.specs.Every.{allOf}
+use Rattle.answer.specs.Every.{allOf}
 use Rattle.types.specs.Parts.{total}
-use Rattle.types.proofs.Alls.{all-more, all-stop, all-here, all-done}
+use Rattle.answer.proofs.Alls.{all-more, all-stop, all-here, all-done}
 use Rattle.shape.specs.Outline.{outlinesOf}
 use Rattle.shape.specs.Which.{testOf, readyFor}
 use Rattle.shape.proofs.Walking.{Walking, walking-none, walking-counted, walking-table, walking-parts, walking-there, walking-cut, walking-stands, walking-more, walking-end}

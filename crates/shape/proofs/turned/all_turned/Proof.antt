@@ -4,17 +4,17 @@ use Prim.Native.Nat.{_+_, _-_, _≤_}
 use native.Mathlib.Omega.{arith}
 use borrow.Author.Tests.{not-true, not-false}
 use lib.ListN.{length, getD, drop}
-use Rattle.types.specs.Every.{allOf}
-use Rattle.types.proofs.Alls.{all-more, all-stop, all-done}
+use Rattle.answer.specs.Every.{allOf}
+use Rattle.answer.proofs.Alls.{all-more, all-stop, all-done}
 use Rattle.shape.specs.Outline.{partsOf}
-use Rattle.shape.specs.Rules.{turned}
+use Rattle.shape.specs.Rules.{turnNotZero}
 use Rattle.shape.proofs.Cuts.{gridded-part}
 use Rattle.shape.proofs.Parting.{Parting, parting-none, parting-there, parting-stands, parting-more, parting-end}
 use Rattle.shape.proofs.turned.all_turned.Statement.{statement}
 use Rattle.shape.proofs.turned.all_turned.Tie as tie
 
 abbrev Inv-loop : tie.InvT-loop
-Inv-loop lens xs ys i₀ at₀ i at = Parting lens xs ys i at × (allOf turned (drop i (partsOf lens xs ys)) ≡ allOf turned (partsOf lens xs ys))
+Inv-loop lens xs ys i₀ at₀ i at = Parting lens xs ys i at × (allOf turnNotZero (drop i (partsOf lens xs ys)) ≡ allOf turnNotZero (partsOf lens xs ys))
 
 abbrev μ-loop : tie.MeasureT-loop
 μ-loop lens xs ys i₀ at₀ i at = length lens - i
@@ -75,7 +75,7 @@ returns : tie.Need-returns Inv-loop μ-loop
 returns c =
     let a = c .before .before .before .before .before .before .before .before .before .before .args in
     let l = c .before .before .before .before .before .before .loop in
-    all-stop turned (partsOf (a .lens .now) (a .xs .now) (a .ys .now)) (l .i) _ (parting-stands (a .lens .now) (a .xs .now) (a .ys .now) (l .i) (l .at) _ (l .inv .0) (c .before .before .before .before .before .loop-test .taken) refl) (sym (c .before .ring-turned .ensures) ∙ not-true _ (c .if1 .taken)) (l .inv .1)
+    all-stop turnNotZero (partsOf (a .lens .now) (a .xs .now) (a .ys .now)) (l .i) _ (parting-stands (a .lens .now) (a .xs .now) (a .ys .now) (l .i) (l .at) _ (l .inv .0) (c .before .before .before .before .before .loop-test .taken) refl) (sym (c .before .ring-turned .ensures) ∙ not-true _ (c .if1 .taken)) (l .inv .1)
 
 add-i : tie.Need-add-i Inv-loop μ-loop
 add-i c = omega arith
@@ -88,13 +88,13 @@ loop-again c =
     let a = c .before .before .before .before .before .before .before .before .before .before .args in
     let l = c .before .before .before .before .before .before .loop in
     let t = c .before .before .before .before .before .loop-test .taken in
-    (parting-more (a .lens .now) (a .xs .now) (a .ys .now) (l .i) (l .at) _ (l .inv .0) t refl, all-more turned (partsOf (a .lens .now) (a .xs .now) (a .ys .now)) (l .i) _ (parting-stands (a .lens .now) (a .xs .now) (a .ys .now) (l .i) (l .at) _ (l .inv .0) t refl) (sym (c .before .ring-turned .ensures) ∙ not-false _ (c .if1 .left)) (l .inv .1))
+    (parting-more (a .lens .now) (a .xs .now) (a .ys .now) (l .i) (l .at) _ (l .inv .0) t refl, all-more turnNotZero (partsOf (a .lens .now) (a .xs .now) (a .ys .now)) (l .i) _ (parting-stands (a .lens .now) (a .xs .now) (a .ys .now) (l .i) (l .at) _ (l .inv .0) t refl) (sym (c .before .ring-turned .ensures) ∙ not-false _ (c .if1 .left)) (l .inv .1))
 
 returns-2 : tie.Need-returns-2 Inv-loop μ-loop
 returns-2 c =
     let a = c .before .before .before .before .before .args in
     let l = c .before .loop in
-    all-done turned (partsOf (a .lens .now) (a .xs .now) (a .ys .now)) (l .i) (parting-end (a .lens .now) (a .xs .now) (a .ys .now) (l .i) (l .at) (l .inv .0) (c .loop-test .left)) (l .inv .1)
+    all-done turnNotZero (partsOf (a .lens .now) (a .xs .now) (a .ys .now)) (l .i) (parting-end (a .lens .now) (a .xs .now) (a .ys .now) (l .i) (l .at) (l .inv .0) (c .loop-test .left)) (l .inv .1)
 
 pub all-turned-spec : {M : Type 1} → statement M
 all-turned-spec =

@@ -2,7 +2,7 @@
 use mathlib.Core.Path.{ap, _∙_}
 use mathlib.Core.Bool.{not}
 use Rattle.grid.specs.Turn.{zeroTurn}
-use Rattle.shape.specs.Rules.{turned, ringTurn}
+use Rattle.shape.specs.Rules.{turnNotZero, ringTurn}
 use Rattle.shape.proofs.Cuts.{turn-back}
 use borrow.Author.Needs.{needs}
 use Rattle.shape.proofs.turned.ring_turned.Statement.{statement}
@@ -15,7 +15,7 @@ no-turn-requires : tie.Need-no-turn-requires
 no-turn-requires c κs = search needs
 
 returns : tie.Need-returns
-unfolding turned ringTurn
+unfolding turnNotZero ringTurn
 returns c = let s = c .before .before .before .before in ap not (c .no-turn .ensures ∙ ap zeroTurn (turn-back (s .args .xs .now) (s .args .ys .now) (c .before .turn .result) (c .before .turn .ensures) (s .pre)))
 
 pub ring-turned-spec : {M : Type 1} → statement M

@@ -2,7 +2,7 @@
 use mathlib.Core.Path.{refl}
 use borrow.Author.Tests.{le-leb, lt-leb}
 use Rattle.types.specs.Parts.{fits}
-use Rattle.types.proofs.Both.{first-fails, then}
+use Rattle.answer.proofs.Both.{first-fails, then}
 use Rattle.types.proofs.parts.fits.Statement.{statement}
 use Rattle.types.proofs.parts.fits.Tie as tie
 

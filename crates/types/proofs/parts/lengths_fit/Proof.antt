@@ -5,9 +5,9 @@ use native.Mathlib.Omega.{arith}
 use borrow.Author.Needs.{needs}
 use borrow.Author.Tests.{not-true, not-false}
 use lib.ListN.{length, drop, drop-of-length-le}
-use Rattle.types.specs.Every.{allOf}
+use Rattle.answer.specs.Every.{allOf}
 use Rattle.types.specs.Parts.{fits, lengthsFit}
-use Rattle.types.proofs.Alls.{stands, all-more, all-stop, all-done}
+use Rattle.answer.proofs.Alls.{stands, all-more, all-stop, all-done}
 use Rattle.types.proofs.parts.lengths_fit.Statement.{statement}
 use Rattle.types.proofs.parts.lengths_fit.Tie as tie
 

@@ -1,7 +1,7 @@
 -- `types::parts::parts_hold` makes the two tests of rule 11 in turn. Assumes nothing.
 use mathlib.Core.Path.{sym, _∙_}
 use Rattle.types.specs.Parts.{partsHold}
-use Rattle.types.proofs.Both.{first-fails, then}
+use Rattle.answer.proofs.Both.{first-fails, then}
 use borrow.Author.Needs.{needs}
 use Rattle.types.proofs.parts.parts_hold.Statement.{statement}
 use Rattle.types.proofs.parts.parts_hold.Tie as tie

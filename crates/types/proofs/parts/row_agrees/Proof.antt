@@ -3,7 +3,7 @@ use mathlib.Core.Path.{sym, _∙_}
 use borrow.Author.Tests.{not-true, not-false, le-leb, lt-leb}
 use lib.Seq.{length-take-le}
 use Rattle.types.specs.Parts.{rowAgrees}
-use Rattle.types.proofs.Both.{first-fails, then}
+use Rattle.answer.proofs.Both.{first-fails, then}
 use borrow.Author.Needs.{needs}
 use Rattle.types.proofs.parts.row_agrees.Statement.{statement}
 use Rattle.types.proofs.parts.row_agrees.Tie as tie

@@ -3,7 +3,7 @@ use mathlib.Core.Path.{ap, _∙_}
 use borrow.Author.Tests.{le-leb, lt-leb}
 use Rattle.types.specs.declared.rows.Row.{Row}
 use Rattle.types.specs.Parts.{rowAgrees, shapeAgrees}
-use Rattle.types.proofs.Both.{first-fails, then}
+use Rattle.answer.proofs.Both.{first-fails, then}
 use borrow.Author.Needs.{needs}
 use Rattle.types.proofs.parts.shape_agrees.Statement.{statement}
 use Rattle.types.proofs.parts.shape_agrees.Tie as tie

@@ -1,7 +1,7 @@
 -- `types::rows::row_of` gives the row of a type: the code's table is that of document 01, row for row, by computation. Assumes nothing.
 use mathlib.Core.Path.{refl}
 use borrow.Author.Needs.{needs}
-use Rattle.types.specs.Types.{rowOf}
+use Rattle.types.specs.Types.{typeRow}
 use Rattle.types.proofs.rows.row_of.Statement.{statement}
 use Rattle.types.proofs.rows.row_of.Tie as tie
 
@@ -12,7 +12,7 @@ array-copy-out-result : tie.Need-array-copy-out-result
 array-copy-out-result c = search needs
 
 returns : tie.Need-returns
-unfolding rowOf
+unfolding typeRow
 returns c = refl
 
 pub row-of-spec : {M : Type 1} → statement M

@@ -1,5 +1,5 @@
--- `put_position` puts `wordsOf`. Assumes nothing.
-use Rattle.viewer.specs.Four.{wordsOf}
+-- `put_position` puts `positionWords`. Assumes nothing.
+use Rattle.viewer.specs.Four.{positionWords}
 use borrow.Author.Needs.{needs}
 use Rattle.viewer.proofs.position.put_position.Statement.{statement}
 use Rattle.viewer.proofs.position.put_position.Tie as tie
@@ -11,7 +11,7 @@ same-length : tie.Need-same-length
 same-length c = search needs
 
 returns : tie.Need-returns
-unfolding wordsOf
+unfolding positionWords
 returns c = c .before .before .put-four .ensures
 
 pub put-position-spec : {M : Type 1} → statement M

@@ -1,4 +1,4 @@
--- `count_of` is `countOf`, a law for each return. Assumes nothing.
+-- `count_of` is `cappedCount`, a law for each return. Assumes nothing.
 use Rattle.viewer.proofs.Stored.{count-above, count-within}
 use borrow.Author.Needs.{needs}
 use Rattle.viewer.proofs.state.count_of.Statement.{statement}

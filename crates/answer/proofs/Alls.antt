@@ -8,9 +8,8 @@ use native.Mathlib.Numerals.{add-one}
 use native.Mathlib.Omega.{arith}
 use lib.ListN.{length, getD, take, drop, take-append-drop}
 use lib.Seq.{drop-cons, getD-drop}
-use Rattle.answer.proofs.Both.{both, both-l, both-r}
-use Rattle.types.specs.Every.{allOf}
-use Rattle.types.proofs.Both.{first-fails, then}
+use Rattle.answer.specs.Every.{allOf}
+use Rattle.answer.proofs.Both.{both, both-l, both-r, first-fails, then}
 
 module _ {A : Type 0} (f : A → Bool) where
   -- none, and one more
@@ -34,9 +33,19 @@ module _ {A : Type 0} (f : A → Bool) where
   all-at (a ∷ l) zero d e h = both-l (f a) (allOf f l) e
   all-at (a ∷ l) (suc i) d e h = all-at l i d (both-r (f a) (allOf f l) e) (le-of-suc-le-suc h)
 
-  -- those from a place on
+  -- those before a place and those from it on
+  all-cut : (i : ℕ) (l : List A) → allOf f l ≡ true → (allOf f (take i l) && allOf f (drop i l)) ≡ true
+  all-cut i l e = sym (all-append (take i l) (drop i l)) ∙ ap (allOf f) (take-append-drop i l) ∙ e
+
+  pub all-take : (i : ℕ) (l : List A) → allOf f l ≡ true → allOf f (take i l) ≡ true
+  all-take i l e = both-l (allOf f (take i l)) (allOf f (drop i l)) (all-cut i l e)
+
   pub all-drop : (i : ℕ) (l : List A) → allOf f l ≡ true → allOf f (drop i l) ≡ true
-  all-drop i l e = both-r (allOf f (take i l)) (allOf f (drop i l)) (sym (all-append (take i l) (drop i l)) ∙ ap (allOf f) (take-append-drop i l) ∙ e)
+  all-drop i l e = both-r (allOf f (take i l)) (allOf f (drop i l)) (all-cut i l e)
+
+  -- a part
+  pub all-part : (i k : ℕ) (l : List A) → allOf f l ≡ true → allOf f (take k (drop i l)) ≡ true
+  all-part i k l e = all-take k (drop i l) (all-drop i l e)
 
 -- a weaker test
 pub all-imp : {A : Type 0} (f g : A → Bool) (l : List A) → ((a : A) → f a ≡ true → g a ≡ true) → allOf f l ≡ true → allOf g l ≡ true
