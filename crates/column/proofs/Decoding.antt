@@ -1,25 +1,24 @@
 -- The outcome of reading, one law for each way through it, over the pattern size P; and what the code's tests of the end mean. Assumes nothing.
 use mathlib.Core.Path.{_≡_, refl, sym, ap, ap₂, _∙_, subst}
-use mathlib.Core.List.{List, [], _∷_, _++_}
+use mathlib.Core.List.{List, [], _++_}
 use mathlib.Core.Bool.{Bool, true, false}
-use Prim.Native.Nat.{ℕ, zero, suc, _+_, _-_, _*_, _/_, _%_, _^_, _≤_, _<_}
+use Prim.Native.Nat.{ℕ, suc, _+_, _-_, _*_, _/_, _%_, _^_, _≤_, _<_}
 use native.Mathlib.Nat.{mod-eq-of-lt, lt-of-lt-of-le, one-mul, div-lt-iff-lt-mul, le-div-iff-mul-le}
 use native.Mathlib.Omega.{arith}
-use lib.Dec.{leb, ltb, eqb}
+use lib.Dec.{leb, eqb}
 use lib.ListN.{length, getD, drop, take}
 use lib.Seq.{take-at}
 use lib.Pow.{shr-lt, pow-mono, pow-pos}
 use borrow.Author.Tests.{le-leb, lt-leb, lt-ltb, le-ltb, eq-eqb, ne-eqb, leb-true, ltb-true, eqb-true, eqb-false}
 use Rattle.answer.specs.Table as Table
 use Rattle.answer.specs.Refusal.{because}
-use Rattle.answer.specs.Outcome.{Out, refused, ok, need, answered, filled, Fills}
+use Rattle.answer.specs.Outcome.{Out, refused, ok, answered, Fills}
 use Rattle.answer.specs.declared.Refusal.{Refusal}
 use Rattle.answer.specs.declared.Filled.{Filled}
 use Rattle.answer.specs.declared.Filled.the-variants.{Start, Refused}
-use Rattle.answer.proofs.Outcomes.{met, unmet, never, ok-inj, need-ok, fills-refused, fills-ok}
+use Rattle.answer.proofs.Outcomes.{met, unmet, ok-inj, need-ok, fills-refused, fills-ok}
 use Rattle.le.specs.Number.{number, field, Bytes}
 use Rattle.le.proofs.Numbers.{number-lt}
-use Rattle.entry.specs.Entry.{after, values}
 use Rattle.entry.proofs.Reading.{length-values}
 use Rattle.column.specs.Column.{whole}
 use Rattle.column.specs.Read.{saidBy, endOf, closed, someOf, decodeOf, readOf, scratchOf, Decodes}

@@ -7,12 +7,12 @@ use native.Mathlib.Nat.{add-assoc, div-one, lt-of-lt-of-le, mul-suc}
 use native.Mathlib.Omega.{arith}
 use lib.ListN.{length, getD}
 use lib.Pow.{pow-mono}
-use Rattle.answer.specs.Outcome.{Out, ok}
+use Rattle.answer.specs.Outcome.{ok}
 use Rattle.le.specs.Number.{number, bytesOf, field}
 use Rattle.le.proofs.Bytes.{length-bytesOf, number-of-fit}
 use Rattle.entry.specs.Fields.{Fld, fld, pack, bits}
-use Rattle.entry.specs.Entry.{EntriesSay, after, values, Below, below-none, below-more}
-use Rattle.entry.proofs.Fields.{Fit, fit-more, pack-lt, first, past}
+use Rattle.entry.specs.Entry.{EntriesSay, Below, below-more}
+use Rattle.entry.proofs.Fields.{fit-more, pack-lt, first, past}
 use Rattle.entry.proofs.Entries.{entries-say, says-fit}
 use Rattle.entry.proofs.Reading.{Reads, reads-all}
 use Rattle.width.specs.Width.{widthOf}

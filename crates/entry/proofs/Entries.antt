@@ -4,6 +4,7 @@ use mathlib.Core.List.{List, [], _∷_, _++_}
 use mathlib.Core.Bool.{Bool, true, false}
 use Prim.Native.Nat.{ℕ, zero, suc, _+_, _^_, _≤_, _<_}
 use native.Mathlib.Nat.{add-zero}
+use native.Mathlib.Decide.{decLt}
 use native.Mathlib.Omega.{arith}
 use lib.Dec.{ltb}
 use lib.ListN.{getD, drop}
@@ -85,6 +86,14 @@ module _ (P n a v z : ℕ) (e : z ≡ zOf P a v) where
   pub full-bits : marker n ≤ z → bits (entryOf P n a v) ≡ n + P
   unfolding bits
   full-bits h = ap bits (full-entry h) ∙ ap (λ (x : ℕ). n + x) (add-zero P)
+
+  -- at least the step's bits
+  pub least-bits : n ≤ bits (entryOf P n a v)
+  least-bits =
+      elim (decLt z (marker n)) [
+        yes l ↦ omega (arith, short-bits l) |
+        no l ↦ (let h : marker n ≤ z = omega arith in omega (arith, full-bits h))
+      ]
 
   pub short-put : (s t : List ℕ) (at : ℕ) → z < marker n → t ≡ putField s at z → t ≡ putFields s at (entryOf P n a v)
   unfolding putFields

@@ -12,17 +12,6 @@ use Rattle.answer.proofs.Both.{and-false}
 use Rattle.extent.specs.Rank.{signed, eqZ}
 use Rattle.extent.proofs.Tests.{same-test, eq→eqb, lt-or-eq, le-not-lt}
 
-pub below-signed : (s t : Bool) (n m : ℕ) → below s n t m ≡ ltZ (signed s n) (signed t m)
-below-signed false false n m = refl
-below-signed false true n zero = sym (leb·suc-zero n)
-below-signed false true n (suc m) = refl
-below-signed true false zero m = ap (λ (x : ℕ). ltb 0 x) (zero-add m)
-below-signed true false (suc n) m = same-test (ltb 0 (suc n + m)) true (λ t. tt) (λ t. lt→ltb 0 (suc n + m) (omega arith))
-below-signed true true zero zero = refl
-below-signed true true zero (suc m) = leb·suc-zero (suc m)
-below-signed true true (suc n) zero = same-test (ltb 0 (suc n)) true (λ t. tt) (λ t. lt→ltb 0 (suc n) (omega arith))
-below-signed true true (suc n) (suc m) = leb·suc-suc (suc m) n
-
 and-true : (b : Bool) → (b && true) ≡ b
 and-true true = refl
 and-true false = refl
@@ -42,6 +31,17 @@ level-signed true true zero zero = refl
 level-signed true true zero (suc m) = ap (λ (b : Bool). b && true) (eqb·zero-suc m)
 level-signed true true (suc n) zero = ap (λ (b : Bool). b && true) (eqb·suc-zero n)
 level-signed true true (suc n) (suc m) = and-true (eqb (suc n) (suc m)) ∙ eqb·suc-suc n m
+
+pub below-signed : (s t : Bool) (n m : ℕ) → below s n t m ≡ ltZ (signed s n) (signed t m)
+below-signed false false n m = refl
+below-signed false true n zero = sym (leb·suc-zero n)
+below-signed false true n (suc m) = refl
+below-signed true false zero m = ap (λ (x : ℕ). ltb 0 x) (zero-add m)
+below-signed true false (suc n) m = same-test (ltb 0 (suc n + m)) true (λ t. tt) (λ t. lt→ltb 0 (suc n + m) (omega arith))
+below-signed true true zero zero = refl
+below-signed true true zero (suc m) = leb·suc-zero (suc m)
+below-signed true true (suc n) zero = same-test (ltb 0 (suc n)) true (λ t. tt) (λ t. lt→ltb 0 (suc n) (omega arith))
+below-signed true true (suc n) (suc m) = leb·suc-suc (suc m) n
 
 eqb-sym : (a b : ℕ) → eqb a b ≡ eqb b a
 eqb-sym a b = same-test (eqb a b) (eqb b a) (λ t. eq→eqb b a (sym (eqb→eq a b t))) (λ t. eq→eqb a b (sym (eqb→eq b a t)))

@@ -8,7 +8,7 @@ use Rattle.answer.specs.Table as table
 use Rattle.answer.specs.Refusal.{because}
 use Rattle.answer.specs.Outcome.{Out, refused, ok, on, inPage}
 use Rattle.answer.proofs.Outcomes.{ok-inj, on-ok, in-page-ok}
-use Rattle.shape.specs.Outline.{Shape, registered}
+use Rattle.shape.specs.Outline.{Shape}
 use Rattle.frame.specs.Frame.{Frame, frameOf}
 use Rattle.frame.specs.Frame as frame
 use Rattle.page.specs.Contents.{countsOf, lensOf, contentsOf}

@@ -7,7 +7,7 @@ use native.Mathlib.Omega.{arith}
 use Rattle.answer.specs.Table as table
 use Rattle.answer.specs.Refusal.{because}
 use Rattle.answer.specs.declared.Refusal.{Refusal}
-use Rattle.answer.specs.Outcome.{refused, ok, on}
+use Rattle.answer.specs.Outcome.{refused, ok}
 use Rattle.frame.specs.declared.cursor.Cursor.{Cursor}
 use Rattle.frame.specs.declared.cursor.PageAt.{PageAt}
 use Rattle.frame.specs.Step.{page, end, firstOf, stepOf}

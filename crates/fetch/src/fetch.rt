@@ -1,5 +1,4 @@
 // The fetching of one shape: frame, 17, contents of its page, 2.
-ghost use lib.ListN.{length};
 ghost use Rattle.fetch.specs.Onward.{Seeks};
 ghost use Rattle.fetch.specs.Fetch.{roomsOf, fetchOf, Fetches};
 use crate::opened::opened;

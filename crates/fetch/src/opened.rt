@@ -5,7 +5,6 @@ ghost use lib.ListN.{length};
 ghost use Rattle.answer.specs.Outcome.{ok, on};
 ghost use Rattle.frame.specs.Head.{headOf};
 ghost use Rattle.frame.specs.Step.{part};
-ghost use Rattle.frame.specs.Frame.{pageOf};
 ghost use Rattle.fetch.specs.Span.{shapeFrom};
 ghost use Rattle.fetch.specs.Fetch.{shapeOf, roomsOf, inRooms, Fetches};
 ghost use Rattle.fetch.specs.Seek.{seatAt};

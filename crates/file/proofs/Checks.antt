@@ -1,20 +1,18 @@
 -- The full check, by the ways through it; and an answer is determined by what it says. Assumes nothing.
 use Prim.Native.Nat.{ℕ}
-use mathlib.Core.Path.{_≡_, refl, sym, ap, _∙_}
+use mathlib.Core.Path.{_≡_, sym, ap, _∙_}
 use mathlib.Core.List.{List}
-use Rattle.answer.specs.Outcome.{Out, refused, ok, on}
+use Rattle.answer.specs.Outcome.{refused, ok}
 use Rattle.answer.specs.Rule.{judged, passed}
 use Rattle.answer.specs.declared.Refusal.{Refusal}
-use Rattle.answer.specs.declared.Verdict.{Verdict}
 use Rattle.answer.specs.declared.Verdict.the-variants as verdict
 use Rattle.answer.proofs.Outcomes.{never, ok-inj, refused-inj, on-ok}
 use Rattle.answer.proofs.Rules.{holds-passed, refused-passed}
 use Rattle.frame.specs.declared.cursor.Cursor.{Cursor}
 use Rattle.frame.specs.declared.walk.Totals.{Totals}
 use Rattle.frame.specs.Step.{firstOf}
-use Rattle.frame.specs.Frame.{Page, Frame, frameOf, totalsOf}
+use Rattle.frame.specs.Frame.{Frame, frameOf, totalsOf}
 use Rattle.frame.proofs.Found.{first-is}
-use Rattle.frame.specs.Ahead.{Ahead}
 use Rattle.frame.proofs.Ahead.{ahead-first}
 use Rattle.shape.specs.Outline.{Shape}
 use Rattle.page.proofs.Orders.{on-refused, on-value}

@@ -1,6 +1,6 @@
 -- What is left of a file from a cursor on: one law for each turn of the walk over its pages. Assumes nothing.
 use Prim.Native.Nat.{ℕ, suc, _+_, _-_, _≤_, _<_}
-use mathlib.Core.Path.{_≡_, refl, sym, ap, ap₂, _∙_}
+use mathlib.Core.Path.{_≡_, sym, ap, _∙_}
 use mathlib.Core.List.{List, [], _∷_, _++_}
 use native.Mathlib.Numerals.{add-one}
 use Rattle.answer.specs.Outcome.{Out, refused, ok, on, inPage}
@@ -8,21 +8,21 @@ use Rattle.answer.specs.Refusal.{onPage}
 use Rattle.answer.specs.Rule.{judged, passed}
 use Rattle.answer.specs.declared.Refusal.{Refusal}
 use Rattle.answer.specs.declared.Verdict.the-variants.{Holds, Refused}
-use Rattle.answer.proofs.Rules.{judged-refused, passed-ok, passed-refused, passed-on, holds-passed, refused-passed}
+use Rattle.answer.proofs.Rules.{passed-ok, passed-refused, passed-on, holds-passed, refused-passed}
 use Rattle.frame.specs.declared.cursor.Cursor.{Cursor}
 use Rattle.frame.specs.declared.cursor.PageAt.{PageAt}
 use Rattle.frame.specs.Head.{headOf}
 use lib.ListN.{length}
-use Rattle.frame.specs.Step.{page, end, part, firstOf, stepOf}
-use Rattle.frame.specs.Frame.{Page, Frame, pageOf, walk, frameOf}
+use Rattle.frame.specs.Step.{page, end, part, stepOf}
+use Rattle.frame.specs.Frame.{Page, pageOf, walk}
 use Rattle.frame.proofs.Found.{page-is}
 use Rattle.frame.proofs.Walks.{pages-on}
 use Rattle.frame.specs.Ahead.{Ahead}
 use Rattle.frame.proofs.Ahead.{ahead-page, ahead-end, ahead-fewer}
 use Rattle.shape.specs.Outline.{Shape}
 use Rattle.page.specs.Contents.{contentsOf}
-use Rattle.page.proofs.Orders.{on-refused, on-value}
-use Rattle.file.specs.File.{pagesOf, restOf, shapesIn}
+use Rattle.page.proofs.Orders.{on-value}
+use Rattle.file.specs.File.{pagesOf, restOf}
 
 -- ---- the shapes of pages, by the first
 

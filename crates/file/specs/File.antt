@@ -3,7 +3,7 @@ use Prim.Native.Nat.{ℕ, suc, _-_}
 use mathlib.Core.List.{List, [], _∷_, _++_}
 use Rattle.answer.specs.Outcome.{Out, ok, on, inPage}
 use Rattle.frame.specs.declared.cursor.Cursor.{Cursor}
-use Rattle.frame.specs.Frame.{Page, Frame, walk, frameOf}
+use Rattle.frame.specs.Frame.{Page, walk, frameOf}
 use Rattle.shape.specs.Outline.{Shape}
 use Rattle.page.specs.Contents.{contentsOf}
 

@@ -1,7 +1,6 @@
 // The full check of a file: frame, then each page's contents.
 ghost use mathlib.Core.Path.{_≡_};
 ghost use mathlib.Core.List.{List};
-ghost use Prim.Native.Nat.{ℕ};
 ghost use lib.ListN.{length};
 ghost use Rattle.answer.specs.Outcome.{ok};
 ghost use Rattle.answer.specs.Rule.{judged, passed};

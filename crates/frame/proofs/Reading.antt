@@ -9,17 +9,16 @@ use Rattle.answer.specs.Outcome.{ok}
 use Rattle.le.specs.Number.{numberAt}
 use Rattle.le.proofs.Bytes.{number-at-part}
 use Rattle.extent.specs.declared.boxes.Box.{Box}
-use Rattle.extent.specs.Boxes.{Bounds, boundsAt, FiniteBox}
+use Rattle.extent.specs.Boxes.{boundsAt, FiniteBox}
 use Rattle.extent.specs.Forms.{floatsOf}
 use Rattle.frame.specs.declared.head.Head.{Head}
 use Rattle.frame.specs.declared.cursor.Cursor.{Cursor}
 use Rattle.frame.specs.declared.cursor.PageAt.{PageAt}
-use Rattle.frame.specs.declared.cursor.Glance.{Glance}
 use Rattle.frame.specs.Head.{headOf}
 use Rattle.frame.specs.Step.{part, page, stepOf, glanceOf}
 use Rattle.frame.proofs.Heads.{Headed, head-is, head-limits, head-reaches, head-finite}
 use Rattle.frame.proofs.Steps.{part-head}
-use Rattle.frame.proofs.Found.{Stands, Paged, page-is, is-page}
+use Rattle.frame.proofs.Found.{Paged, page-is, is-page}
 use Rattle.frame.proofs.Parts.{length-part}
 
 module _ (s : List ℕ) (c : Cursor) (p : PageAt) (e : stepOf s c ≡ ok (page p)) where

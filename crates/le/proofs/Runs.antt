@@ -9,7 +9,7 @@ use lib.ListN.{length, length-append, getD, set, take, drop}
 use lib.Seq.{take-all, drop-length, take-suc, length-take-le, sets}
 use Rattle.le.proofs.Bytes.{length-bytesOf, number-at-append, number-at-bytesOf}
 use Rattle.le.proofs.Stores.{sets-append}
-use Rattle.le.specs.Number.{number, bytesOf, numberAt, numbersAt, runOf}
+use Rattle.le.specs.Number.{bytesOf, numberAt, numbersAt, runOf}
 
 pub length-numbers : (k n : ℕ) (s : List ℕ) (at : ℕ) → length (numbersAt k n s at) ≡ n
 unfolding numbersAt

@@ -1,7 +1,7 @@
 -- Shown here: what a call says that it put at the start of a room fits the room. Nothing is assumed.
 use Prim.Native.Nat.{ℕ, _+_, _≤_}
-use mathlib.Core.Path.{_≡_, refl, sym, ap, _∙_}
-use mathlib.Core.List.{List, _++_}
+use mathlib.Core.Path.{_≡_, sym, ap, _∙_}
+use mathlib.Core.List.{List}
 use native.Mathlib.Omega.{arith}
 use lib.ListN.{length, length-append, drop}
 use Rattle.answer.specs.declared.Filled.{Filled}

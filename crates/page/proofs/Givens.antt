@@ -1,18 +1,16 @@
 -- What a decoding gives, as a verdict and a scratch. Assumes nothing.
 use Prim.Native.Nat.{ℕ}
-use mathlib.Core.Path.{_≡_, refl, sym, ap, _∙_, subst}
+use mathlib.Core.Path.{_≡_, refl, sym, ap, _∙_}
 use mathlib.Core.List.{List, _++_, append-nil}
 use native.Mathlib.Omega.{arith}
-use lib.ListN.{length, drop}
+use lib.ListN.{length}
 use lib.Seq.{drop-length}
 use Rattle.answer.specs.Outcome.{Out, refused, ok, answered}
 use Rattle.answer.specs.declared.Refusal.{Refusal}
-use Rattle.answer.specs.declared.Filled.{Filled}
 use Rattle.answer.specs.declared.Filled.the-variants.{Start, Refused}
-use Rattle.answer.specs.declared.Verdict.{Verdict}
 use Rattle.answer.specs.declared.Verdict.the-variants as verdict
 use Rattle.answer.proofs.Rules.{passed-ok, passed-refused}
-use Rattle.column.specs.Read.{decodeOf, scratchOf, Decodes}
+use Rattle.column.specs.Read.{decodeOf, Decodes}
 use Rattle.column.proofs.Decoding.{scratch-ok}
 use Rattle.page.specs.Given.{Given}
 

@@ -1,31 +1,30 @@
 -- A page's contents, by the ways through them; and where its head says that things stand. Assumes nothing.
 use Prim.Native.Nat.{ℕ, _+_, _*_, _-_, _≤_}
-use mathlib.Core.Path.{_≡_, refl, sym, ap, ap₂, _∙_}
-use mathlib.Core.Bool.{Bool, true}
+use mathlib.Core.Path.{_≡_, refl, sym, ap₂, _∙_}
+use mathlib.Core.Bool.{true}
 use mathlib.Core.List.{List}
 use native.Mathlib.Omega.{arith}
 use lib.ListN.{length, take, drop}
 use Rattle.answer.specs.Table as table
 use Rattle.answer.specs.Outcome.{Out, refused, ok, on}
-use Rattle.answer.specs.Rule.{judged, passed}
+use Rattle.answer.specs.Rule.{judged}
 use Rattle.answer.specs.declared.Refusal.{Refusal}
 use Rattle.answer.specs.declared.Verdict.{Verdict}
 use Rattle.answer.specs.declared.Verdict.the-variants.{Holds, Refused}
 use Rattle.answer.proofs.Outcomes.{on-ok}
-use Rattle.answer.proofs.Rules.{judged-holds, judged-refused, passed-ok, passed-refused, refused-passed, rule-ok}
+use Rattle.answer.proofs.Rules.{judged-holds, passed-ok, passed-refused, refused-passed, rule-ok}
 use Rattle.le.specs.Number.{numbersAt, Bytes}
-use Rattle.extent.specs.Rank.{allFinite}
-use Rattle.extent.specs.Boxes.{Bounds, patterns, FiniteBox}
+use Rattle.extent.specs.Boxes.{patterns, FiniteBox}
 use Rattle.types.specs.Parts.{partsHold, partsRule}
 use Rattle.types.proofs.Passed.{parts-passed}
 use Rattle.frame.specs.declared.head.Head.{Head}
 use Rattle.frame.specs.Layout.{layoutOf}
 use Rattle.frame.specs.Head.{headOf}
 use Rattle.frame.proofs.Layouts.{columns-at}
-use Rattle.frame.proofs.Heads.{Headed, head-is, head-limits, head-finite, head-patterns}
-use Rattle.shape.specs.Outline.{Outline, Shape, outlinesOf, registered}
+use Rattle.frame.proofs.Heads.{head-is, head-limits, head-finite, head-patterns}
+use Rattle.shape.specs.Outline.{Outline, outlinesOf, registered}
 use Rattle.shape.specs.Rules.{boxHolds, boxRule}
-use Rattle.page.specs.Contents.{registersOf, typesOf, countsOf, lensOf, Vertices, verticesOf, outlineRules, contentsOf}
+use Rattle.page.specs.Contents.{registersOf, typesOf, countsOf, lensOf, verticesOf, outlineRules, contentsOf}
 use Rattle.page.specs.Loaded.{Columns, Loaded, Loads}
 use Rattle.page.proofs.Orders.{on-refused, on-value, on-on, then-refused, then-holds}
 use Rattle.page.proofs.Ruled.{ruled-all}

@@ -4,12 +4,12 @@ use mathlib.Core.Path.{_≡_, refl, sym, ap, ap₂, _∙_}
 use mathlib.Core.List.{List, []}
 use native.Mathlib.Omega.{arith}
 use lib.ListN.{length, take, drop}
-use Rattle.answer.specs.Outcome.{Out, refused, ok, on}
-use Rattle.answer.specs.Rule.{judged, passed}
+use Rattle.answer.specs.Outcome.{refused, ok, on}
+use Rattle.answer.specs.Rule.{passed}
 use Rattle.answer.specs.declared.Refusal.{Refusal}
 use Rattle.answer.specs.declared.Verdict.{Verdict}
 use Rattle.answer.specs.declared.Verdict.the-variants.{Holds, Refused}
-use Rattle.answer.proofs.Rules.{passed-ok, passed-refused, refused-passed, passed-on}
+use Rattle.answer.proofs.Rules.{passed-refused, refused-passed, passed-on}
 use Rattle.answer.proofs.Outcomes.{ok-inj, on-ok}
 use Rattle.column.proofs.Decoding.{scratch-ok}
 use Rattle.column.specs.Read.{decodeOf}

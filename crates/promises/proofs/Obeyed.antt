@@ -15,7 +15,7 @@ use Rattle.frame.specs.Frame.{Page}
 use Rattle.page.specs.Contents.{registersOf, typesOf, countsOf, lensOf}
 use Rattle.promises.specs.SoundFile.{SoundPage, SoundPages}
 use Rattle.promises.specs.SoundFile as sound
-use Rattle.promises.specs.Obeying.{Obeys, AllObey, none, more}
+use Rattle.promises.specs.Obeying.{AllObey, none, more}
 
 -- shapes cut from lists that rule 11 let pass
 outlines-obey : (rs types counts lens xs ys : List ℕ) → partsAgree types counts lens ≡ true → length xs ≡ total lens → length ys ≡ total lens

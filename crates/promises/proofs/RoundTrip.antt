@@ -6,7 +6,7 @@ use mathlib.Core.List.{List}
 use Prim.Native.Nat.{ℕ, _≤_, _<_}
 use lib.ListN.{length}
 use borrow.Author.Tests.{leb-true}
-use Rattle.answer.specs.Outcome.{Out, ok}
+use Rattle.answer.specs.Outcome.{ok}
 use Rattle.answer.proofs.Outcomes.{need-ok, ok-inj}
 use Rattle.entry.specs.Entry.{Below}
 use Rattle.width.specs.Width.{widthOf}

@@ -1,7 +1,6 @@
 // What a searcher asks, and what it meets.
 ghost use mathlib.Core.Path.{_≡_};
 ghost use mathlib.Core.Bool.{true, _&&_};
-ghost use Prim.Native.Nat.{ℕ};
 ghost use lib.ListN.{length};
 ghost use Rattle.answer.specs.Table.{query};
 ghost use Rattle.answer.specs.Rule.{rule, judged};

@@ -1,27 +1,25 @@
 -- One call, one law for each way through it. Over the pattern size P. Assumes nothing.
-use mathlib.Core.Path.{_≡_, refl, sym, ap, ap₂, _∙_}
+use mathlib.Core.Path.{_≡_, refl, sym, ap, _∙_}
 use mathlib.Core.List.{List}
 use mathlib.Core.Bool.{Bool, true, false}
-use mathlib.Core.Logic.{_⊎_, inl, inr, ⊎-elim}
+use mathlib.Core.Logic.{inl, inr, ⊎-elim}
 use Prim.Native.Nat.{ℕ, _+_, _-_, _*_, _/_, _%_, _^_, _≤_, _<_}
 use native.Mathlib.Decide.{decLt}
 use native.Mathlib.Omega.{arith}
-use lib.Dec.{leb, ltb, eqb}
+use lib.Dec.{leb, ltb}
 use lib.ListN.{length, getD}
 use borrow.Author.Tests.{le-leb, lt-leb, le-ltb, lt-ltb, eq-eqb, ne-eqb, leb-true, leb-false}
 use Rattle.answer.specs.Table as Table
 use Rattle.answer.specs.Refusal.{because}
 use Rattle.answer.specs.Outcome.{Out, refused, ok, need}
 use Rattle.answer.proofs.Outcomes.{met, unmet}
-use Rattle.le.specs.Number.{number, field, Bytes}
+use Rattle.le.specs.Number.{number, field}
 use Rattle.entry.specs.Step.{marker}
 use Rattle.entry.specs.Entry.{sizeAt, valueAt}
 use Rattle.entry.proofs.Reading.{size-le, size-short, size-full}
 use Rattle.column.specs.declared.Position.{Position}
 use Rattle.column.specs.Column.{whole}
 use Rattle.column.specs.Read.{closed}
-use Rattle.column.proofs.Decoding.{closed-bits, closed-fill, closed-good, fill-zero, fill-some}
-use Rattle.reader.specs.declared.Answer.{Answer}
 use Rattle.reader.specs.declared.Answer.the-variants.{Value, End, Refused}
 use Rattle.reader.specs.Next.{ValueOrEnd, value, end, position, firstCall, laterCall, nextOf, answerWith}
 

@@ -1,21 +1,21 @@
 -- From a fresh position the run of single calls is the column read with room for N: the same values, the same end or refusal; and where bits
 -- are lacking, the values before are those that the entries say, as many as the index of the value that lacks them. Over the pattern size P.
 -- Assumes nothing.
-use mathlib.Core.Path.{_≡_, refl, sym, ap, ap₂, _∙_, subst}
+use mathlib.Core.Path.{_≡_, refl, sym, ap, ap₂, _∙_}
 use mathlib.Core.Logic.{_⊎_, inl, inr, ⊎-elim}
-use mathlib.Core.List.{List, [], _∷_, _++_}
+use mathlib.Core.List.{List, [], _∷_}
 use mathlib.Core.Bool.{Bool, true, false}
-use Prim.Native.Nat.{ℕ, zero, suc, _+_, _-_, _*_, _/_, _^_, _≤_, _<_}
+use Prim.Native.Nat.{ℕ, zero, suc, _+_, _-_, _*_, _^_, _≤_, _<_}
 use native.Mathlib.Nat.{mul-suc, mul-le-mul-right}
-use native.Mathlib.Decide.{decLe, decLt}
+use native.Mathlib.Decide.{decLe}
 use native.Mathlib.Omega.{arith}
-use lib.Dec.{leb, ltb, eqb}
+use lib.Dec.{ltb, eqb}
 use lib.ListN.{length, getD, take}
 use lib.Seq.{take-length}
 use borrow.Author.Tests.{ltb-true, ltb-false, eqb-true, eqb-false}
 use Rattle.answer.specs.Table as Table
 use Rattle.answer.specs.Refusal.{because}
-use Rattle.answer.specs.Outcome.{Out, refused, ok}
+use Rattle.answer.specs.Outcome.{refused, ok}
 use Rattle.answer.proofs.Outcomes.{never, ok-inj}
 use Rattle.le.specs.Number.{number, field}
 use Rattle.entry.specs.Entry.{sizeAt, valueAt, after, values}
@@ -24,11 +24,9 @@ use Rattle.column.specs.declared.Position.{Position}
 use Rattle.column.specs.Column.{whole}
 use Rattle.column.specs.Read.{saidBy, endOf, closed, decodeOf, readOf}
 use Rattle.column.proofs.Decoding.{closed-bits, closed-fill, closed-good, decode-zero, decode-empty, decode-wide, decode-closed, read-many, read-decode, closed-ok}
-use Rattle.reader.specs.declared.Answer.{Answer}
-use Rattle.reader.specs.declared.Answer.the-variants.{Value, End, Refused}
-use Rattle.reader.specs.Next.{ValueOrEnd, value, end, position, firstCall, laterCall, nextOf, answerWith}
+use Rattle.reader.specs.Next.{end, position, firstCall, laterCall, nextOf, answerWith}
 use Rattle.reader.specs.Run.{Run, follow, runFrom, EndsAs, Runs}
-use Rattle.reader.proofs.Calls.{said-refused, said-value, first-none, first-empty, first-wide, first-short, first-value, later-end, later-short, later-value, next-many, next-first, next-later}
+use Rattle.reader.proofs.Calls.{first-none, first-empty, first-wide, first-short, first-value, later-end, later-short, later-value, next-many, next-first, next-later}
 
 -- ---- the end, judged by a call and by the whole read
 

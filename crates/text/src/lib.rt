@@ -1,10 +1,9 @@
 // Numbers and rows as text, put into a buffer that the caller flushes.
 ghost use mathlib.Core.Path.{_≡_};
-ghost use mathlib.Core.List.{List, [], _∷_, _++_};
-ghost use Prim.Native.Nat.{ℕ, _+_, _≤_};
+ghost use Prim.Native.Nat.{_+_, _≤_};
 ghost use lib.ListN.{length};
 ghost use lib.Seq.{sets};
-ghost use Rattle.text.specs.Decimal.{decimal, marked, row};
+ghost use Rattle.text.specs.Decimal.{marked, row};
 use le::run::put_bytes;
 
 // Puts a number in decimal and a mark behind it: where the next thing goes.

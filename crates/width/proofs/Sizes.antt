@@ -1,21 +1,21 @@
 -- Laws of S(n): the entries' bits are S(n), it is at most P(N - 1) at the width taken, and the walk that counts full steps. Assumes nothing.
 use mathlib.Core.Path.{_≡_, refl, sym, ap, ap₂, _∙_}
-use mathlib.Core.List.{List, [], _∷_, _++_}
+use mathlib.Core.List.{List, [], _∷_}
 use mathlib.Core.Bool.{Bool, true, false, cond}
-use Prim.Native.Nat.{ℕ, suc, _+_, _-_, _*_, _^_, _≤_, _<_, zero-le}
-use native.Mathlib.Nat.{mul-suc, mul-zero, mul-one, mul-add, zero-mul, zero-add, mul-le-mul, mul-le-mul-left, mul-le-mul-right, add-mul}
+use Prim.Native.Nat.{ℕ, suc, _+_, _-_, _*_, _≤_, _<_, zero-le}
+use native.Mathlib.Nat.{mul-suc, mul-zero, mul-one, mul-add, zero-mul, mul-le-mul, mul-le-mul-left, mul-le-mul-right, add-mul}
 use native.Mathlib.Numerals.{add-one}
 use native.Mathlib.Omega.{arith}
 use lib.Dec.{leb}
 use lib.ListN.{length, getD, drop, drop-of-length-le}
 use lib.Seq.{drop-cons}
-use borrow.Author.Tests.{le-leb, lt-leb, leb-true, leb-false}
+use borrow.Author.Tests.{leb-true, leb-false}
 use Rattle.entry.specs.Step.{zOf, marker}
-use Rattle.entry.specs.Fields.{pack, bits}
+use Rattle.entry.specs.Fields.{bits}
 use Rattle.entry.specs.Entry.{entries, entryOf}
 use Rattle.entry.proofs.Fields.{bits-append}
 use Rattle.entry.proofs.Entries.{short-bits, full-bits, entries-cons}
-use Rattle.width.specs.Width.{zsAfter, zsOf, fulls, S, least, widthOf, Least}
+use Rattle.width.specs.Width.{zsAfter, zsOf, fulls, S, widthOf, Least}
 use Rattle.width.proofs.Least.{least-law}
 
 pub fulls-le : (n : ℕ) (zs : List ℕ) → fulls n zs ≤ length zs

@@ -1,12 +1,12 @@
 -- `entry::put_entry` puts the fields of one entry: a step's one, or the marker and the full value. Assumes nothing.
-use mathlib.Core.Path.{_≡_, sym, ap, subst}
+use mathlib.Core.Path.{sym, ap, subst}
 use Prim.Native.Nat.{ℕ, _+_, _≤_, _<_}
 use native.Mathlib.Omega.{arith}
 use lib.ListN.{length}
 use lib.Pow.{ones-lt}
 use Rattle.le.proofs.Puts.{length-put}
 use Rattle.entry.specs.Step.{marker}
-use Rattle.entry.proofs.Entries.{short-bits, full-bits, short-put, full-put}
+use Rattle.entry.proofs.Entries.{short-bits, full-bits, least-bits, short-put, full-put}
 use borrow.Author.Needs.{needs}
 use Rattle.entry.proofs.put_entry.Statement.{statement}
 use Rattle.entry.proofs.put_entry.Tie as tie
@@ -21,21 +21,20 @@ put-field-requires : tie.Need-put-field-requires
 put-field-requires c κs =
     let st = c .before .before .before .before in
     let z = c .before .before .zigzag in
-    let lt : z .result < marker (st .args .n) = subst (λ (x : ℕ). z .result < x) (st .pre .1) (c .before .if1 .taken) in
-    (st .pre .0, omega (arith, ones-lt (st .args .n)), omega (arith, short-bits 64 (st .args .n) (st .args .a) (st .args .v) (z .result) (z .ensures) lt, st .pre .2))
+    (st .pre .0, omega (arith, ones-lt (st .args .n), st .pre .1, c .before .if1 .taken), omega (arith, least-bits 64 (st .args .n) (st .args .a) (st .args .v) (z .result) (z .ensures), st .pre .2))
 
 put-field-requires-2 : tie.Need-put-field-requires-2
 put-field-requires-2 c κs =
     let st = c .before .before .before .before in
     let z = c .before .before .zigzag in
-    let le : marker (st .args .n) ≤ z .result = subst (λ (x : ℕ). x ≤ z .result) (st .pre .1) (c .before .if1 .left) in
+    let le : marker (st .args .n) ≤ z .result = omega (arith, st .pre .1, c .before .if1 .left) in
     (st .pre .0, omega (arith, ones-lt (st .args .n)), omega (arith, full-bits 64 (st .args .n) (st .args .a) (st .args .v) (z .result) (z .ensures) le, st .pre .2))
 
 put-field-requires-3 : tie.Need-put-field-requires-3
 put-field-requires-3 c κs =
     let st = c .before .before .before .before .before .before .before .before in
     let z = c .before .before .before .before .before .before .zigzag in
-    let le : marker (st .args .n) ≤ z .result = subst (λ (x : ℕ). x ≤ z .result) (st .pre .1) (c .before .before .before .before .before .if1 .left) in
+    let le : marker (st .args .n) ≤ z .result = omega (arith, st .pre .1, c .before .before .before .before .before .if1 .left) in
     (omega arith, st .fits .v .fits, omega (arith, full-bits 64 (st .args .n) (st .args .a) (st .args .v) (z .result) (z .ensures) le, st .pre .2, ap length (c .before .before .before .put-field2 .ensures), length-put (st .args .s .now) (st .args .at) (st .args .m)))
 
 add-result : tie.Need-add-result

@@ -5,12 +5,6 @@ use native.Mathlib.Omega.{arith}
 use borrow.Author.Needs.{needs}
 use Rattle.list.proofs.answer_to.Statement.{statement}
 use Rattle.list.proofs.answer_to.Tie as tie
-use Rattle.list.proofs.answer_to.Reads as reads
-use Rattle.list.proofs.answer_to.Lts as lts
-use Rattle.answer.proofs.Refusal.because.Reads as because-reads
-use Rattle.line.proofs.refused.Reads as refused-reads
-use Rattle.list.proofs.list.Reads as list-reads
-use Rattle.query.proofs.block.ask_of.Reads as ask-of-reads
 
 -- src/main.rt:110:9
 returns : tie.Need-returns

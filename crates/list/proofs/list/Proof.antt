@@ -5,11 +5,6 @@ use Rattle.list.proofs.Starts.{start-fits}
 use borrow.Author.Needs.{needs}
 use Rattle.list.proofs.list.Statement.{statement}
 use Rattle.list.proofs.list.Tie as tie
-use Rattle.list.proofs.list.Reads as reads
-use Rattle.list.proofs.list.Lts as lts
-use Rattle.line.proofs.refused.Reads as refused-reads
-use Rattle.list.proofs.list_places.Reads as list-places-reads
-use Rattle.search.proofs.search.search.Reads as search-reads
 
 -- src/main.rt:96:27
 slice-aggregate-search : tie.Need-slice-aggregate-search

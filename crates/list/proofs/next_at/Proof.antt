@@ -4,9 +4,6 @@ use lib.Seq.{length-take-le}
 use borrow.Author.Needs.{needs}
 use Rattle.list.proofs.next_at.Statement.{statement}
 use Rattle.list.proofs.next_at.Tie as tie
-use Rattle.list.proofs.next_at.Reads as reads
-use Rattle.list.proofs.next_at.Lts as lts
-use Rattle.io.proofs.write_all.Reads as write-all-reads
 
 -- src/main.rt:42:8
 sub-if1 : tie.Need-sub-if1

@@ -7,12 +7,6 @@ use lib.Seq.{length-take-le}
 use borrow.Author.Needs.{needs}
 use Rattle.list.proofs.say_rows.Statement.{statement}
 use Rattle.list.proofs.say_rows.Tie as tie
-use Rattle.list.proofs.say_rows.Reads as reads
-use Rattle.list.proofs.say_rows.Lts as lts
-use Rattle.io.proofs.write_all.Reads as write-all-reads
-use Rattle.list.proofs.least.Reads as least-reads
-use Rattle.list.proofs.next_at.Reads as next-at-reads
-use Rattle.text.proofs.put_row.Reads as put-row-reads
 
 abbrev Inv-loop : tie.InvT-loop
 Inv-loop places registers types out₀ n at₀ i₀ out at i = (length out ≡ length out₀) × (at ≤ length out)

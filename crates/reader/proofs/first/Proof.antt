@@ -3,8 +3,7 @@ use mathlib.Core.Path.{sym, ap, ap₂, _∙_}
 use Prim.Native.Nat.{ℕ}
 use native.Mathlib.Omega.{arith}
 use Rattle.answer.specs.Table as Table
-use Rattle.reader.specs.Next.{answerWith, value, position}
-use Rattle.reader.specs.declared.Answer.{Answer}
+use Rattle.reader.specs.Next.{answerWith, position}
 use Rattle.reader.specs.declared.Answer.the-variants.{Value}
 use Rattle.reader.proofs.Calls.{said-refused, said-value, first-none, first-empty, first-wide, first-short, first-value}
 use borrow.Author.Needs.{needs}

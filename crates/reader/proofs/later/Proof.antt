@@ -1,8 +1,7 @@
 -- `reader::later` gives a later value, the end, or a refusal, one law for each return. Assumes nothing.
-use mathlib.Core.Path.{_≡_, sym, ap, ap₂, _∙_}
-use Prim.Native.Nat.{ℕ, _+_, _*_, _^_, _≤_, _<_}
+use mathlib.Core.Path.{sym, ap, ap₂, _∙_}
+use Prim.Native.Nat.{ℕ, _+_}
 use native.Mathlib.Omega.{arith}
-use lib.ListN.{length}
 use Rattle.answer.specs.Table as Table
 use Rattle.le.specs.Number.{number}
 use Rattle.entry.specs.Entry.{sizeAt}

@@ -1,5 +1,4 @@
 -- `reader::runs_over` says whether the next place passes 64 bits, by the entry's size. Assumes nothing.
-use native.Mathlib.Omega.{arith}
 use Rattle.le.specs.Number.{number}
 use Rattle.reader.proofs.Calls.{over-none, over-short, over-full}
 use borrow.Author.Needs.{needs}

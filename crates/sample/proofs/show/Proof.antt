@@ -4,10 +4,6 @@ use lib.Seq.{length-take-le}
 use borrow.Author.Needs.{needs}
 use Rattle.sample.proofs.show.Statement.{statement}
 use Rattle.sample.proofs.show.Tie as tie
-use Rattle.sample.proofs.show.Reads as reads
-use Rattle.sample.proofs.show.Lts as lts
-use Rattle.io.proofs.write_all.Reads as write-all-reads
-use Rattle.line.proofs.refused.Reads as refused-reads
 
 enum-told : tie.Need-enum-told
 enum-told c = search needs

@@ -4,10 +4,6 @@ use native.Mathlib.Omega.{arith}
 use borrow.Author.Needs.{needs}
 use Rattle.text.proofs.put_marked.Statement.{statement}
 use Rattle.text.proofs.put_marked.Tie as tie
-use Rattle.text.proofs.put_marked.Reads as reads
-use Rattle.text.proofs.put_marked.Lts as lts
-use Rattle.io.proofs.decimal.Reads as decimal-reads
-use Rattle.le.proofs.run.put_bytes.Reads as put-bytes-reads
 
 -- src/lib.rt:16:9
 decimal-requires : tie.Need-decimal-requires

@@ -4,9 +4,6 @@ use native.Mathlib.Omega.{arith}
 use borrow.Author.Needs.{needs}
 use Rattle.text.proofs.put_row.Statement.{statement}
 use Rattle.text.proofs.put_row.Tie as tie
-use Rattle.text.proofs.put_row.Reads as reads
-use Rattle.text.proofs.put_row.Lts as lts
-use Rattle.text.proofs.put_marked.Reads as put-marked-reads
 
 -- src/lib.rt:28:9
 put-marked-requires : tie.Need-put-marked-requires

@@ -3,7 +3,7 @@ use mathlib.Core.Path.{sym, ap₂}
 use Prim.Native.Nat.{ℕ, _+_, _*_}
 use native.Mathlib.Omega.{arith}
 use lib.ListN.{length}
-use Rattle.width.specs.Width.{zsOf, S}
+use Rattle.width.specs.Width.{S}
 use Rattle.width.proofs.Sizes.{length-zs, count-le, steps-le, size-none}
 use borrow.Author.Needs.{needs}
 use Rattle.width.proofs.size_at.Statement.{statement}

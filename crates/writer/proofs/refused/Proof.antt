@@ -2,9 +2,6 @@
 use borrow.Author.Needs.{needs}
 use Rattle.writer.proofs.refused.Statement.{statement}
 use Rattle.writer.proofs.refused.Tie as tie
-use Rattle.writer.proofs.refused.Reads as reads
-use Rattle.writer.proofs.refused.Lts as lts
-use Rattle.answer.proofs.Refusal.because.Reads as because-reads
 
 because-requires : tie.Need-because-requires
 because-requires c κs = search needs

@@ -3,8 +3,6 @@ use mathlib.Core.Path.{sym}
 use Rattle.writer.proofs.Paging.{start-at, start-past}
 use Rattle.writer.proofs.start_of.Statement.{statement}
 use Rattle.writer.proofs.start_of.Tie as tie
-use Rattle.writer.proofs.start_of.Reads as reads
-use Rattle.writer.proofs.start_of.Lts as lts
 
 returns : tie.Need-returns
 returns c = sym (start-at _ _ (c .if1 .taken))

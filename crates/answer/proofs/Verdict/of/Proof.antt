@@ -5,9 +5,6 @@ use Rattle.answer.proofs.Rules.{rule-holds, rule-fails, judged-holds, j
 use borrow.Author.Needs.{needs}
 use Rattle.answer.proofs.Verdict.of.Statement.{statement}
 use Rattle.answer.proofs.Verdict.of.Tie as tie
-use Rattle.answer.proofs.Verdict.of.Reads as reads
-use Rattle.answer.proofs.Verdict.of.Lts as lts
-use Rattle.answer.proofs.Refusal.because.Reads as because-reads
 
 returns : tie.Need-returns
 returns c = judged-holds ∙ sym (rule-holds (c .before .args .holds) (c .before .args .number) (c .if1 .taken))

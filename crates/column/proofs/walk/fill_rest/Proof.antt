@@ -1,7 +1,6 @@
 -- `column::walk::fill_rest` gives the rest of the values. The invariant: the walk went from where it began to here. Assumes nothing.
 use Prim.Native.Nat.{_-_}
 use native.Mathlib.Omega.{arith}
-use borrow.Author.Needs.{needs}
 use Rattle.le.specs.Number.{number}
 use Rattle.entry.proofs.Reading.{size-le}
 use Rattle.column.specs.Position.{position}

@@ -2,7 +2,6 @@
 -- began to here; an entry takes at most 128 bits, so the place is where it was said to be at most. Assumes nothing.
 use Prim.Native.Nat.{_-_, _≤_}
 use native.Mathlib.Omega.{arith}
-use borrow.Author.Needs.{needs}
 use Rattle.le.specs.Number.{number}
 use Rattle.column.specs.Position.{position}
 use Rattle.column.specs.Filling.{Went}

@@ -5,8 +5,6 @@ use native.Mathlib.Omega.{arith}
 use lib.ListN.{length, getD}
 use lib.Pow.{pow-pos}
 use Rattle.le.proofs.Puts.{length-put}
-use Rattle.entry.specs.Entry.{entries}
-use Rattle.entry.proofs.Fields.{length-puts}
 use Rattle.entry.proofs.Entries.{all-below}
 use Rattle.column.proofs.Writing.{put-none, part-size, put-all}
 use borrow.Author.Needs.{needs}

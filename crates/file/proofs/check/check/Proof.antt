@@ -4,10 +4,6 @@ use Rattle.file.proofs.Checks.{check-frame, check-contents, check-sound
 use borrow.Author.Needs.{needs}
 use Rattle.file.proofs.check.check.Statement.{statement}
 use Rattle.file.proofs.check.check.Tie as tie
-use Rattle.file.proofs.check.check.Reads as reads
-use Rattle.file.proofs.check.check.Lts as lts
-use Rattle.file.proofs.check.contents_hold.Reads as contents-hold-reads
-use Rattle.frame.proofs.walk.frame.Reads as frame-reads
 
 frame-requires : tie.Need-frame-requires
 frame-requires c κs = search needs

@@ -7,10 +7,6 @@ use Rattle.file.proofs.Checks.{shapes-after}
 use borrow.Author.Needs.{needs}
 use Rattle.file.proofs.check.contents_hold.Statement.{statement}
 use Rattle.file.proofs.check.contents_hold.Tie as tie
-use Rattle.file.proofs.check.contents_hold.Reads as reads
-use Rattle.file.proofs.check.contents_hold.Lts as lts
-use Rattle.file.proofs.check.pages_hold.Reads as pages-hold-reads
-use Rattle.frame.proofs.walk.first.Reads as first-reads
 
 first-requires : tie.Need-first-requires
 first-requires c κs = search needs

@@ -7,9 +7,6 @@ use Rattle.file.proofs.Opening.{limits-of, part-of, first-of}
 use borrow.Author.Needs.{needs}
 use Rattle.file.proofs.scratch.page_holds.Statement.{statement}
 use Rattle.file.proofs.scratch.page_holds.Tie as tie
-use Rattle.file.proofs.scratch.page_holds.Reads as reads
-use Rattle.file.proofs.scratch.page_holds.Lts as lts
-use Rattle.page.proofs.contents.load.Reads as load-reads
 
 add-to : tie.Need-add-to
 add-to c = search needs

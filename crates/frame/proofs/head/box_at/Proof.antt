@@ -1,5 +1,5 @@
 -- `box_at` takes the four patterns where they stand, each finite. Assumes nothing.
-use mathlib.Core.Path.{_∙_, ap, sym}
+use mathlib.Core.Path.{_∙_, ap}
 use lib.Ieee.{binary64, ofBits}
 use Rattle.extent.specs.Boxes.{boundsAt}
 use borrow.Author.Needs.{needs}

@@ -1,7 +1,5 @@
 -- `at_end` looks at the kind. Assumes nothing.
-use mathlib.Core.Path.{ap}
 use native.Mathlib.Omega.{arith}
-use lib.Dec.{eqb}
 use Rattle.frame.specs.Step.{endsAt}
 use Rattle.frame.proofs.Found.{step-there}
 use Rattle.frame.proofs.read.at_end.Statement.{statement}

@@ -1,6 +1,5 @@
 -- `glance` reads the few numbers of a page that has passed in the file's own bytes. Assumes nothing.
 use Prim.Native.Nat.{_+_, _≤_}
-use mathlib.Core.Path.{_≡_}
 use native.Mathlib.Omega.{arith}
 use lib.ListN.{length}
 use Rattle.frame.proofs.Reading.{page-reaches, page-length, page-ends, page-shapes, page-finite, page-few, glance-is}

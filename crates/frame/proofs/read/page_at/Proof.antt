@@ -1,6 +1,6 @@
 -- `page_at` reads the page's length and its head, in the part of the file that is its body. Assumes nothing.
 use Prim.Native.Nat.{_+_, _≤_}
-use mathlib.Core.Path.{_≡_, sym, ap, _∙_}
+use mathlib.Core.Path.{sym, ap, _∙_}
 use native.Mathlib.Omega.{arith}
 use lib.ListN.{length}
 use Rattle.answer.proofs.Outcomes.{ok-inj}

@@ -1,6 +1,6 @@
 -- `window` gives the 64 bits from a bit place on: one word, and the ninth byte where the place is inside a byte. Assumes nothing.
 use mathlib.Core.Path.{_≡_, ap, _∙_}
-use Prim.Native.Nat.{ℕ, _*_, _/_, _%_, _^_, _-_}
+use Prim.Native.Nat.{ℕ, _*_, _/_, _%_, _^_}
 use native.Mathlib.Omega.{arith}
 use Rattle.le.proofs.Fields.{window-law}
 use Rattle.le.specs.Number.{number}

@@ -1,6 +1,5 @@
 -- `block_in` reads the block's head. Assumes nothing.
-use Prim.Native.Nat.{_+_, _≤_, _<_, _^_}
-use mathlib.Core.Path.{_≡_}
+use Prim.Native.Nat.{_+_, _≤_}
 use native.Mathlib.Omega.{arith}
 use lib.ListN.{length}
 use Rattle.le.proofs.Blocks.{present-fits, block-present}

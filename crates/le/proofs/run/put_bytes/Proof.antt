@@ -1,15 +1,12 @@
 -- `le::run::put_bytes` puts bytes. The invariant: the first i are put, and nothing else has changed. Assumes nothing.
-use mathlib.Core.Path.{_≡_, refl, sym, ap, _∙_}
-use mathlib.Core.List.{List}
-use Prim.Native.Nat.{ℕ, _+_, _*_, _-_, _≤_, _<_}
+use mathlib.Core.Path.{_≡_, refl, ap, _∙_}
+use Prim.Native.Nat.{_-_, _≤_}
 use native.Mathlib.Omega.{arith}
 use lib.ListN.{length, take, length-set}
 use lib.Seq.{sets, take-all}
 use Rattle.le.proofs.Runs.{bytes-more}
 use Rattle.le.proofs.run.put_bytes.Statement.{statement}
 use Rattle.le.proofs.run.put_bytes.Tie as tie
-use Rattle.le.proofs.run.put_bytes.Reads as reads
-use Rattle.le.proofs.run.put_bytes.Lts as lts
 
 abbrev Inv-loop : tie.InvT-loop
 Inv-loop d₀ at xs n i₀ d i = (i ≤ n) × (length d ≡ length d₀) × (d ≡ sets d₀ at (take i xs))

@@ -1,17 +1,14 @@
 -- `le::run::read_u16s` fills the room with the run's numbers. The invariant: the first i are there, and the rest stays. Assumes nothing.
 use mathlib.Core.Path.{_≡_, refl, sym, ap, _∙_}
-use mathlib.Core.List.{List, _++_}
-use Prim.Native.Nat.{ℕ, _+_, _*_, _-_, _≤_, _<_}
+use mathlib.Core.List.{_++_}
+use Prim.Native.Nat.{_-_, _≤_, _<_}
 use native.Mathlib.Omega.{arith}
 use lib.ListN.{length, getD, set, take, drop, length-set}
-use Rattle.le.specs.Number.{numberAt, numbersAt}
+use Rattle.le.specs.Number.{numbersAt}
 use Rattle.le.proofs.Copying.{copy-more}
 use Rattle.le.proofs.Runs.{length-numbers, numbers-at, run-whole}
 use Rattle.le.proofs.run.read_u16s.Statement.{statement}
 use Rattle.le.proofs.run.read_u16s.Tie as tie
-use Rattle.le.proofs.run.read_u16s.Reads as reads
-use Rattle.le.proofs.run.read_u16s.Lts as lts
-use Rattle.le.proofs.number.u16_at.Reads as u16-at-reads
 
 abbrev Inv-loop : tie.InvT-loop
 Inv-loop s at d₀ n i₀ d i = (i ≤ n) × (length d ≡ n) × (d ≡ take i (numbersAt 2 n s at) ++ drop i d₀)

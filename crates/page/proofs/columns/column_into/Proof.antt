@@ -3,9 +3,6 @@ use Rattle.page.proofs.Givens.{given-values, given-refused}
 use borrow.Author.Needs.{needs}
 use Rattle.page.proofs.columns.column_into.Statement.{statement}
 use Rattle.page.proofs.columns.column_into.Tie as tie
-use Rattle.page.proofs.columns.column_into.Reads as reads
-use Rattle.page.proofs.columns.column_into.Lts as lts
-use Rattle.column.proofs.read.decode.Reads as decode-reads
 
 decode-requires : tie.Need-decode-requires
 decode-requires c κs = search needs

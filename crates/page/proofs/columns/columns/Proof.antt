@@ -4,9 +4,6 @@ use Rattle.page.proofs.Vertices.{x-part, y-part, columns-refused, colum
 use borrow.Author.Needs.{needs}
 use Rattle.page.proofs.columns.columns.Statement.{statement}
 use Rattle.page.proofs.columns.columns.Tie as tie
-use Rattle.page.proofs.columns.columns.Reads as reads
-use Rattle.page.proofs.columns.columns.Lts as lts
-use Rattle.page.proofs.columns.column_into.Reads as column-into-reads
 
 add-y : tie.Need-add-y
 add-y c = search needs

@@ -1,19 +1,11 @@
 -- `page::contents::load` reads the tables and the columns of a page and judges them in order: a law for each return. Assumes nothing.
-use mathlib.Core.Path.{_≡_, refl, sym, ap, _∙_}
-use Prim.Native.Nat.{ℕ}
+use mathlib.Core.Path.{refl, sym, _∙_}
 use native.Mathlib.Omega.{arith}
-use Rattle.types.specs.Parts.{partsHold}
 use Rattle.page.proofs.Vertices.{vertices-long}
 use Rattle.page.proofs.Loading.{head-stands, head-box, counts-read, lens-read, types-read, loads-parts, loads-columns, loads-holds, loads-rules}
 use borrow.Author.Needs.{needs}
 use Rattle.page.proofs.contents.load.Statement.{statement}
 use Rattle.page.proofs.contents.load.Tie as tie
-use Rattle.page.proofs.contents.load.Reads as reads
-use Rattle.page.proofs.contents.load.Lts as lts
-use Rattle.le.proofs.run.read_u16s.Reads as read-u16s-reads
-use Rattle.page.proofs.columns.columns.Reads as columns-reads
-use Rattle.page.proofs.contents.page_rules.Reads as page-rules-reads
-use Rattle.types.proofs.parts.parts_rule.Reads as parts-rule-reads
 
 read-u16s-requires : tie.Need-read-u16s-requires
 read-u16s-requires c κs =

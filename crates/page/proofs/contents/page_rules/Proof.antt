@@ -1,5 +1,5 @@
 -- `page::contents::page_rules` gives the verdict of rules 12 to 15 and then of 16. Assumes nothing.
-use mathlib.Core.Path.{_≡_, sym, _∙_}
+use mathlib.Core.Path.{sym, _∙_}
 use Rattle.answer.proofs.Rules.{judged-holds, judged-refused}
 use Rattle.shape.specs.Outline.{outlinesOf}
 use Rattle.page.specs.Contents.{outlineRules}
@@ -8,10 +8,6 @@ use Rattle.page.proofs.Ruled.{ruled-all}
 use borrow.Author.Needs.{needs}
 use Rattle.page.proofs.contents.page_rules.Statement.{statement}
 use Rattle.page.proofs.contents.page_rules.Tie as tie
-use Rattle.page.proofs.contents.page_rules.Reads as reads
-use Rattle.page.proofs.contents.page_rules.Lts as lts
-use Rattle.page.proofs.rules.outline_rules.Reads as outline-rules-reads
-use Rattle.shape.proofs.rules.box_rule.Reads as box-rule-reads
 
 outline-rules-requires : tie.Need-outline-rules-requires
 outline-rules-requires c κs = search needs

@@ -1,16 +1,9 @@
 -- `page::rules::outline_rules` gives the verdict of rules 12 to 15, in order: a law for each return. Assumes nothing.
-use mathlib.Core.Path.{_≡_, sym, _∙_}
 use Rattle.shape.specs.Outline.{outlinesOf}
 use Rattle.page.proofs.Ruled.{grid-held, ruled-finite, ruled-ring, ruled-grid, ruled-turn}
 use borrow.Author.Needs.{needs}
 use Rattle.page.proofs.rules.outline_rules.Statement.{statement}
 use Rattle.page.proofs.rules.outline_rules.Tie as tie
-use Rattle.page.proofs.rules.outline_rules.Reads as reads
-use Rattle.page.proofs.rules.outline_rules.Lts as lts
-use Rattle.shape.proofs.rules.finite_rule.Reads as finite-rule-reads
-use Rattle.shape.proofs.rules.grid_rule.Reads as grid-rule-reads
-use Rattle.shape.proofs.rules.ring_rule.Reads as ring-rule-reads
-use Rattle.shape.proofs.rules.turn_rule.Reads as turn-rule-reads
 
 finite-rule-requires : tie.Need-finite-rule-requires
 finite-rule-requires c κs = search needs

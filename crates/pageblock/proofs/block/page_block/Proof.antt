@@ -15,13 +15,6 @@ use Rattle.pageblock.proofs.Blocks.{page-passed, block-refused, block-r
 use borrow.Author.Needs.{needs}
 use Rattle.pageblock.proofs.block.page_block.Statement.{statement}
 use Rattle.pageblock.proofs.block.page_block.Tie as tie
-use Rattle.pageblock.proofs.block.page_block.Reads as reads
-use Rattle.pageblock.proofs.block.page_block.Lts as lts
-use Rattle.answer.proofs.Refusal.because.Reads as because-reads
-use Rattle.column.proofs.write.fit.Reads as fit-reads
-use Rattle.frame.proofs.layout.layout_of.Reads as layout-of-reads
-use Rattle.pageblock.proofs.block.put_page.Reads as put-page-reads
-use Rattle.pageblock.proofs.rules.page_rules.Reads as page-rules-reads
 
 page-rules-requires : tie.Need-page-rules-requires
 page-rules-requires c κs = search needs

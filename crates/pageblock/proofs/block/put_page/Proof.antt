@@ -7,14 +7,6 @@ use Rattle.pageblock.proofs.Storing.{page-put}
 use borrow.Author.Needs.{needs}
 use Rattle.pageblock.proofs.block.put_page.Statement.{statement}
 use Rattle.pageblock.proofs.block.put_page.Tie as tie
-use Rattle.pageblock.proofs.block.put_page.Reads as reads
-use Rattle.pageblock.proofs.block.put_page.Lts as lts
-use Rattle.frame.proofs.layout.layout_of.Reads as layout-of-reads
-use Rattle.le.proofs.block.put_head.Reads as put-head-reads
-use Rattle.pageblock.proofs.body.put_box.Reads as put-box-reads
-use Rattle.pageblock.proofs.body.put_columns.Reads as put-columns-reads
-use Rattle.pageblock.proofs.body.put_counts.Reads as put-counts-reads
-use Rattle.pageblock.proofs.body.put_tables.Reads as put-tables-reads
 
 layout-of-requires : tie.Need-layout-of-requires
 layout-of-requires c κs = let a = c .before .before .before .before .before .before .before .args in let p = c .before .before .before .before .before .before .before .pre in let i = (handedWith (a .registers .now) (a .types .now) (a .counts .now) (a .lens .now) (a .xs .now) (a .ys .now)) in let v = even-limits i (p .2) in (v .few, omega (arith, v .parts, v .vertices))

@@ -7,11 +7,6 @@ use Rattle.pageblock.proofs.Boxed.{box-zero, stored-finite, four-are}
 use borrow.Author.Needs.{needs}
 use Rattle.pageblock.proofs.body.put_box.Statement.{statement}
 use Rattle.pageblock.proofs.body.put_box.Tie as tie
-use Rattle.pageblock.proofs.body.put_box.Reads as reads
-use Rattle.pageblock.proofs.body.put_box.Lts as lts
-use Rattle.extent.proofs.boxes.box_of.Reads as box-of-reads
-use Rattle.extent.proofs.rank.bits_of.Reads as bits-of-reads
-use Rattle.pageblock.proofs.body.put_four.Reads as put-four-reads
 
 put-four-requires : tie.Need-put-four-requires
 put-four-requires c κs = search needs

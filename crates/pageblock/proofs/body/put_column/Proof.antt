@@ -9,9 +9,6 @@ use Rattle.pageblock.proofs.Storing.{part-put, column-part}
 use borrow.Author.Needs.{needs}
 use Rattle.pageblock.proofs.body.put_column.Statement.{statement}
 use Rattle.pageblock.proofs.body.put_column.Tie as tie
-use Rattle.pageblock.proofs.body.put_column.Reads as reads
-use Rattle.pageblock.proofs.body.put_column.Lts as lts
-use Rattle.column.proofs.write.put.Reads as put-reads
 
 add-end : tie.Need-add-end
 add-end c = search needs

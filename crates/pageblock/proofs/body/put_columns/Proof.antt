@@ -3,10 +3,6 @@ use Rattle.pageblock.proofs.Storing.{columns-put}
 use borrow.Author.Needs.{needs}
 use Rattle.pageblock.proofs.body.put_columns.Statement.{statement}
 use Rattle.pageblock.proofs.body.put_columns.Tie as tie
-use Rattle.pageblock.proofs.body.put_columns.Reads as reads
-use Rattle.pageblock.proofs.body.put_columns.Lts as lts
-use Rattle.le.proofs.number.put_u32.Reads as put-u32-reads
-use Rattle.pageblock.proofs.body.put_column.Reads as put-column-reads
 
 put-u32-requires : tie.Need-put-u32-requires
 put-u32-requires c κs = search needs

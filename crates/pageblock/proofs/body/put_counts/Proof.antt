@@ -3,9 +3,6 @@ use Rattle.pageblock.proofs.Storing.{counts-put}
 use borrow.Author.Needs.{needs}
 use Rattle.pageblock.proofs.body.put_counts.Statement.{statement}
 use Rattle.pageblock.proofs.body.put_counts.Tie as tie
-use Rattle.pageblock.proofs.body.put_counts.Reads as reads
-use Rattle.pageblock.proofs.body.put_counts.Lts as lts
-use Rattle.le.proofs.number.put_u16.Reads as put-u16-reads
 
 put-u16-requires : tie.Need-put-u16-requires
 put-u16-requires c κs = search needs

@@ -3,9 +3,6 @@ use Rattle.pageblock.proofs.Storing.{box-put}
 use borrow.Author.Needs.{needs}
 use Rattle.pageblock.proofs.body.put_four.Statement.{statement}
 use Rattle.pageblock.proofs.body.put_four.Tie as tie
-use Rattle.pageblock.proofs.body.put_four.Reads as reads
-use Rattle.pageblock.proofs.body.put_four.Lts as lts
-use Rattle.le.proofs.number.put_u64.Reads as put-u64-reads
 
 put-u64-requires : tie.Need-put-u64-requires
 put-u64-requires c κs = search needs

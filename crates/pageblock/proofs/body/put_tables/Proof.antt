@@ -6,11 +6,6 @@ use Rattle.pageblock.proofs.Sizes.{length-tables}
 use borrow.Author.Needs.{needs}
 use Rattle.pageblock.proofs.body.put_tables.Statement.{statement}
 use Rattle.pageblock.proofs.body.put_tables.Tie as tie
-use Rattle.pageblock.proofs.body.put_tables.Reads as reads
-use Rattle.pageblock.proofs.body.put_tables.Lts as lts
-use Rattle.le.proofs.run.put_bytes.Reads as put-bytes-reads
-use Rattle.le.proofs.run.put_u16s.Reads as put-u16s-reads
-use Rattle.le.proofs.run.put_u32s.Reads as put-u32s-reads
 
 mul-t : tie.Need-mul-t
 mul-t c = search needs

@@ -4,9 +4,6 @@ use Rattle.pageblock.proofs.Passing.{types-uneven, counts-uneven, verti
 use borrow.Author.Needs.{needs}
 use Rattle.pageblock.proofs.rules.counts_hold.Statement.{statement}
 use Rattle.pageblock.proofs.rules.counts_hold.Tie as tie
-use Rattle.pageblock.proofs.rules.counts_hold.Reads as reads
-use Rattle.pageblock.proofs.rules.counts_hold.Lts as lts
-use Rattle.frame.proofs.head.counts_ok.Reads as counts-ok-reads
 
 returns : tie.Need-returns
 returns c = let a = c .before .before .before .before .before .before .before .args in types-uneven (handedWith (a .registers .now) (a .types .now) (a .counts .now) (a .lens .now) (a .xs .now) (a .ys .now)) (c .if1 .taken)

@@ -6,12 +6,6 @@ use Rattle.pageblock.proofs.Passing.{holds-even, even-limits, rules-cou
 use borrow.Author.Needs.{needs}
 use Rattle.pageblock.proofs.rules.page_rules.Statement.{statement}
 use Rattle.pageblock.proofs.rules.page_rules.Tie as tie
-use Rattle.pageblock.proofs.rules.page_rules.Reads as reads
-use Rattle.pageblock.proofs.rules.page_rules.Lts as lts
-use Rattle.answer.proofs.Refusal.because.Reads as because-reads
-use Rattle.page.proofs.rules.outline_rules.Reads as outline-rules-reads
-use Rattle.pageblock.proofs.rules.counts_hold.Reads as counts-hold-reads
-use Rattle.types.proofs.parts.parts_rule.Reads as parts-rule-reads
 
 counts-hold-requires : tie.Need-counts-hold-requires
 counts-hold-requires c κs = search needs

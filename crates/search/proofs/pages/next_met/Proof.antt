@@ -4,14 +4,13 @@ use mathlib.Core.Path.{_≡_, sym, ap, subst, _∙_}
 use mathlib.Core.Bool.{Bool}
 use Prim.Native.Nat.{_-_}
 use borrow.Author.Tests.{not-true, not-false}
-use Rattle.answer.specs.Outcome.{ok}
 use Rattle.extent.specs.Boxes.{FiniteBox, patterns}
 use Rattle.le.proofs.Numbers.{bytes-part}
 use Rattle.query.specs.declared.ask.Ask.{Ask}
 use Rattle.query.specs.Ask.{opens}
 use Rattle.frame.specs.declared.cursor.Glance.{Glance}
 use Rattle.frame.specs.declared.cursor.PageAt.{PageAt}
-use Rattle.frame.specs.Step.{page, stepOf, glanceOf}
+use Rattle.frame.specs.Step.{glanceOf}
 use Rattle.frame.proofs.Found.{page-is}
 use Rattle.frame.proofs.Ahead.{ahead-turn, ahead-stop, ahead-go}
 use Rattle.page.proofs.Loading.{head-box}

@@ -4,10 +4,6 @@ use Rattle.shape.proofs.Whiches.{all-spared}
 use borrow.Author.Needs.{needs}
 use Rattle.shape.proofs.rules.shapes_hold.Statement.{statement}
 use Rattle.shape.proofs.rules.shapes_hold.Tie as tie
-use Rattle.shape.proofs.rules.shapes_hold.Reads as reads
-use Rattle.shape.proofs.rules.shapes_hold.Lts as lts
-use Rattle.shape.proofs.rules.each_shape.Reads as each-shape-reads
-use Rattle.shape.proofs.rules.spares_all.Reads as spares-all-reads
 
 spares-all-requires : tie.Need-spares-all-requires
 spares-all-requires c κs = search needs

@@ -10,9 +10,6 @@ use Rattle.answer.proofs.Alls.{stands, all-more, all-stop, all-done}
 use Rattle.shape.specs.Which.{spares}
 use Rattle.shape.proofs.rules.spares_all.Statement.{statement}
 use Rattle.shape.proofs.rules.spares_all.Tie as tie
-use Rattle.shape.proofs.rules.spares_all.Reads as reads
-use Rattle.shape.proofs.rules.spares_all.Lts as lts
-use Rattle.shape.proofs.which.spares.Reads as spares-reads
 
 abbrev Inv-loop : tie.InvT-loop
 Inv-loop w types i₀ i = (i ≤ length types) × (allOf (spares w) (drop i types) ≡ allOf (spares w) types)

@@ -1,15 +1,11 @@
 -- `shape::which::open_type` looks at a type's row, if it has one. Assumes nothing.
 use mathlib.Core.Path.{ap}
 use mathlib.Core.Bool.{not}
-use native.Mathlib.Omega.{arith}
 use Rattle.types.specs.declared.rows.Row.{Row}
 use Rattle.shape.proofs.Whiches.{open-over}
 use borrow.Author.Needs.{needs}
 use Rattle.shape.proofs.which.open_type.Statement.{statement}
 use Rattle.shape.proofs.which.open_type.Tie as tie
-use Rattle.shape.proofs.which.open_type.Reads as reads
-use Rattle.shape.proofs.which.open_type.Lts as lts
-use Rattle.types.proofs.rows.row_of.Reads as row-of-reads
 
 row-of-requires : tie.Need-row-of-requires
 row-of-requires c κs = search needs

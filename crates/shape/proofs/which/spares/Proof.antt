@@ -4,9 +4,6 @@ use Rattle.shape.proofs.Whiches.{spares-ring, spares-grid, spares-turn}
 use borrow.Author.Needs.{needs}
 use Rattle.shape.proofs.which.spares.Statement.{statement}
 use Rattle.shape.proofs.which.spares.Tie as tie
-use Rattle.shape.proofs.which.spares.Reads as reads
-use Rattle.shape.proofs.which.spares.Lts as lts
-use Rattle.shape.proofs.which.open_type.Reads as open-type-reads
 
 enum-told : tie.Need-enum-told
 enum-told c = search needs

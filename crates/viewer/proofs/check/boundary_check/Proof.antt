@@ -3,10 +3,6 @@ use Rattle.viewer.proofs.Words.{word-sound, word-refused}
 use borrow.Author.Needs.{needs}
 use Rattle.viewer.proofs.check.boundary_check.Statement.{statement}
 use Rattle.viewer.proofs.check.boundary_check.Tie as tie
-use Rattle.viewer.proofs.check.boundary_check.Reads as reads
-use Rattle.viewer.proofs.check.boundary_check.Lts as lts
-use Rattle.file.proofs.check.check.Reads as check-reads
-use Rattle.viewer.proofs.word.refusal_word.Reads as refusal-word-reads
 
 check-requires : tie.Need-check-requires
 check-requires c κs = search needs

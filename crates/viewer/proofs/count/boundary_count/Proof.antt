@@ -3,11 +3,6 @@ use Rattle.viewer.proofs.Words.{word-unasked, word-hits, word-uncounted
 use borrow.Author.Needs.{needs}
 use Rattle.viewer.proofs.count.boundary_count.Statement.{statement}
 use Rattle.viewer.proofs.count.boundary_count.Tie as tie
-use Rattle.viewer.proofs.count.boundary_count.Reads as reads
-use Rattle.viewer.proofs.count.boundary_count.Lts as lts
-use Rattle.query.proofs.block.ask_of.Reads as ask-of-reads
-use Rattle.search.proofs.count.count.Reads as count-reads
-use Rattle.viewer.proofs.word.refusal_word.Reads as refusal-word-reads
 
 ask-of-requires : tie.Need-ask-of-requires
 ask-of-requires c κs = search needs

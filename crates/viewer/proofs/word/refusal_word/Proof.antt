@@ -3,8 +3,6 @@ use Rattle.viewer.proofs.Words.{refusal-is}
 use borrow.Author.Needs.{needs}
 use Rattle.viewer.proofs.word.refusal_word.Statement.{statement}
 use Rattle.viewer.proofs.word.refusal_word.Tie as tie
-use Rattle.viewer.proofs.word.refusal_word.Reads as reads
-use Rattle.viewer.proofs.word.refusal_word.Lts as lts
 
 cast-result : tie.Need-cast-result
 cast-result c = search needs

@@ -10,10 +10,6 @@ use Rattle.writer.proofs.Ways.{added, close-closed, close-many, close-s
 use borrow.Author.Needs.{needs}
 use Rattle.writer.proofs.Writer.close.Statement.{statement}
 use Rattle.writer.proofs.Writer.close.Tie as tie
-use Rattle.writer.proofs.Writer.close.Reads as reads
-use Rattle.writer.proofs.Writer.close.Lts as lts
-use Rattle.writer.proofs.blocks.put_end.Reads as put-end-reads
-use Rattle.writer.proofs.refused.Reads as refused-reads
 
 refused-requires : tie.Need-refused-requires
 refused-requires c κs = search needs

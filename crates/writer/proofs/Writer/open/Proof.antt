@@ -6,10 +6,6 @@ use Rattle.writer.proofs.Ways.{added, open-room, open-ok}
 use borrow.Author.Needs.{needs}
 use Rattle.writer.proofs.Writer.open.Statement.{statement}
 use Rattle.writer.proofs.Writer.open.Tie as tie
-use Rattle.writer.proofs.Writer.open.Reads as reads
-use Rattle.writer.proofs.Writer.open.Lts as lts
-use Rattle.writer.proofs.blocks.put_first.Reads as put-first-reads
-use Rattle.writer.proofs.refused.Reads as refused-reads
 
 refused-requires : tie.Need-refused-requires
 refused-requires c κs = search needs

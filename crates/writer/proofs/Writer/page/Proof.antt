@@ -9,11 +9,6 @@ use Rattle.writer.proofs.Paging.{start-inside, page-refused, page-fits,
 use borrow.Author.Needs.{needs}
 use Rattle.writer.proofs.Writer.page.Statement.{statement}
 use Rattle.writer.proofs.Writer.page.Tie as tie
-use Rattle.writer.proofs.Writer.page.Reads as reads
-use Rattle.writer.proofs.Writer.page.Lts as lts
-use Rattle.pageblock.proofs.block.page_block.Reads as page-block-reads
-use Rattle.writer.proofs.refused.Reads as refused-reads
-use Rattle.writer.proofs.start_of.Reads as start-of-reads
 
 refused-requires : tie.Need-refused-requires
 refused-requires c κs = search needs

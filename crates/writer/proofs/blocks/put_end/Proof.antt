@@ -3,10 +3,6 @@ use Rattle.writer.proofs.Ends.{end-put}
 use borrow.Author.Needs.{needs}
 use Rattle.writer.proofs.blocks.put_end.Statement.{statement}
 use Rattle.writer.proofs.blocks.put_end.Tie as tie
-use Rattle.writer.proofs.blocks.put_end.Reads as reads
-use Rattle.writer.proofs.blocks.put_end.Lts as lts
-use Rattle.le.proofs.block.put_head.Reads as put-head-reads
-use Rattle.le.proofs.number.put_u32.Reads as put-u32-reads
 
 put-head-requires : tie.Need-put-head-requires
 put-head-requires c κs = search needs

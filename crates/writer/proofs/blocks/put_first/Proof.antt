@@ -3,10 +3,6 @@ use Rattle.writer.proofs.Ends.{first-put}
 use borrow.Author.Needs.{needs}
 use Rattle.writer.proofs.blocks.put_first.Statement.{statement}
 use Rattle.writer.proofs.blocks.put_first.Tie as tie
-use Rattle.writer.proofs.blocks.put_first.Reads as reads
-use Rattle.writer.proofs.blocks.put_first.Lts as lts
-use Rattle.le.proofs.block.put_head.Reads as put-head-reads
-use Rattle.le.proofs.number.put_u16.Reads as put-u16-reads
 
 put-head-requires : tie.Need-put-head-requires
 put-head-requires c κs = search needs
