@@ -91,8 +91,8 @@ module _ (P n a v z : ℕ) (e : z ≡ zOf P a v) where
   pub least-bits : n ≤ bits (entryOf P n a v)
   least-bits =
       elim (decLt z (marker n)) [
-        yes l ↦ omega (arith, short-bits l) |
-        no l ↦ (let h : marker n ≤ z = omega arith in omega (arith, full-bits h))
+        | yes l ↦ omega (arith, short-bits l)
+        | no l ↦ (let h : marker n ≤ z = omega arith in omega (arith, full-bits h))
       ]
 
   pub short-put : (s t : List ℕ) (at : ℕ) → z < marker n → t ≡ putField s at z → t ≡ putFields s at (entryOf P n a v)
