@@ -113,7 +113,7 @@ fn fill_rest(s: &[u8], n: usize, m: u64, from: Position, out: &mut [u64]) -> Pos
 }
 
 // Gives all n values of a column of width w into out, and the place where its entries end.
-pub fn fill(s: &[u8], n: usize, w: u64, out: &mut [u64]) -> usize
+pub(crate) fn fill(s: &[u8], n: usize, w: u64, out: &mut [u64]) -> usize
     requires { ⌜ (w ≡ getD (now s) 0 0) × (w ≤ 64) × (0 < n) × (n ≤ 2048) × (n ≤ length (now out)) ⌝ }
     ensures { λ r. ⌜ (r ≡ endOf 64 (now (s .entry)) n) × (now (out .exit) ≡ saidBy 64 (now (s .entry)) n ++ drop n (now (out .entry))) × (r ≤ 72 + 128 * 2048) ⌝ }
 {

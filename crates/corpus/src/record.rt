@@ -34,7 +34,7 @@ fn nothing() -> Span
 }
 
 // The slice whose number of elements stands at a place: elements of so many bytes, at most 8, and no more of them than `most`.
-pub fn span_at(input: &[u8], at: usize, size: usize, most: usize) -> Span
+pub(crate) fn span_at(input: &[u8], at: usize, size: usize, most: usize) -> Span
     requires { ⌜ size ≤ 8 ⌝ }
     ensures { λ r. ⌜ (r .from + size * r .count ≤ length (now (input .entry))) × (r .count ≤ most) ⌝ }
 {
@@ -62,7 +62,7 @@ pub fn span_at(input: &[u8], at: usize, size: usize, most: usize) -> Span
 }
 
 // The plain number at a place.
-pub fn plain_at(input: &[u8], at: usize) -> Plain {
+pub(crate) fn plain_at(input: &[u8], at: usize) -> Plain {
     let len = input.len();
     if len < 8 {
         return Plain {
@@ -83,7 +83,7 @@ pub fn plain_at(input: &[u8], at: usize) -> Plain {
 }
 
 // So many bytes of a record, as they stand there.
-pub fn part(input: &[u8], from: usize, count: usize) -> &[u8]
+pub(crate) fn part(input: &[u8], from: usize, count: usize) -> &[u8]
     requires { ⌜ from + count ≤ length (now input) ⌝ }
 {
     let end = from + count;

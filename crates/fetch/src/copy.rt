@@ -5,7 +5,7 @@ ghost use Prim.Native.Nat.{_≤_};
 ghost use lib.ListN.{length, drop};
 
 // Part lengths.
-pub fn copy_lens(src: &[u16], dst: &mut [u16])
+pub(crate) fn copy_lens(src: &[u16], dst: &mut [u16])
     requires { ⌜ length (now src) ≤ length (now dst) ⌝ }
     ensures { λ r. ⌜ now (dst .exit) ≡ now (src .entry) ++ drop (length (now (src .entry))) (now (dst .entry)) ⌝ }
 {
@@ -18,7 +18,7 @@ pub fn copy_lens(src: &[u16], dst: &mut [u16])
 }
 
 // Patterns.
-pub fn copy_patterns(src: &[u64], dst: &mut [u64])
+pub(crate) fn copy_patterns(src: &[u64], dst: &mut [u64])
     requires { ⌜ length (now src) ≤ length (now dst) ⌝ }
     ensures { λ r. ⌜ now (dst .exit) ≡ now (src .entry) ++ drop (length (now (src .entry))) (now (dst .entry)) ⌝ }
 {

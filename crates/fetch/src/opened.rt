@@ -124,7 +124,13 @@ fn seat_shape(
 }
 
 // The same with its own scratch.
-pub fn opened(s: &[u8], t: SeatAt, lens: &mut [u16], xs: &mut [u64], ys: &mut [u64]) -> Fetched
+pub(crate) fn opened(
+    s: &[u8],
+    t: SeatAt,
+    lens: &mut [u16],
+    xs: &mut [u64],
+    ys: &mut [u64],
+) -> Fetched
     requires { ⌜ (t .at .pages ≤ 1024) × (t .index < t .page .head .g) × (t .page .body + t .page .len ≤ length (now s)) × ((e : ℕ) × (headOf e (part (now s) (t .page .body) (t .page .len)) ≡ ok (t .page .head))) ⌝ }
     ensures { λ r. ⌜ Fetches (on (shapeOf (seatAt (now (s .entry)) t)) (inRooms (roomsOf (now (lens .entry)) (now (xs .entry)) (now (ys .entry))))) (now (lens .entry)) (now (xs .entry)) (now (ys .entry)) r (now (lens .exit)) (now (xs .exit)) (now (ys .exit)) ⌝ }
 {

@@ -17,7 +17,7 @@ pub struct Row {
 }
 
 // The row of the shape at index i of a page with a head that was read from its body.
-pub fn row_in(b: &[u8], h: Head, i: usize) -> Row
+pub(crate) fn row_in(b: &[u8], h: Head, i: usize) -> Row
     requires { ⌜ ((e : ℕ) × (headOf e (now b) ≡ ok h)) × (i < h .g) ⌝ }
     ensures { λ r. ⌜ r ≡ rowOf h (now (b .entry)) i ⌝ }
 {
@@ -28,7 +28,7 @@ pub fn row_in(b: &[u8], h: Head, i: usize) -> Row
 }
 
 // The row of the shape at index i of a page of a file.
-pub fn row_at(s: &[u8], p: PageAt, i: usize) -> Row
+pub(crate) fn row_at(s: &[u8], p: PageAt, i: usize) -> Row
     requires { ⌜ (p .body + p .len ≤ length (now s)) × ((e : ℕ) × (headOf e (part (now s) (p .body) (p .len)) ≡ ok (p .head))) × (i < p .head .g) ⌝ }
     ensures { λ r. ⌜ r ≡ rowOf (p .head) (part (now (s .entry)) (p .body) (p .len)) i ⌝ }
 {

@@ -23,7 +23,7 @@ pub enum Sought {
 }
 
 // The seat of a place, sought from a cursor that the place does not lie before. The frame has passed.
-pub fn seek(s: &[u8], from: Cursor, place: usize) -> Sought
+pub(crate) fn seek(s: &[u8], from: Cursor, place: usize) -> Sought
     requires { ⌜ Onward (now s) from × (from .shapes ≤ place) ⌝ }
     ensures { λ r. ⌜ Seeks (now (s .entry)) place r ⌝ }
 {

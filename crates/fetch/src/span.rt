@@ -15,7 +15,7 @@ pub struct Span {
 }
 
 // The span of the shape at index i, by the page's part counts and part lengths.
-pub fn span_of(counts: &[u16], lens: &[u16], i: usize) -> Span
+pub(crate) fn span_of(counts: &[u16], lens: &[u16], i: usize) -> Span
     requires { ⌜ (i < length (now counts)) × (total (now counts) ≡ length (now lens)) × (length (now lens) ≤ 2048) × (total (now lens) ≤ 2048) ⌝ }
     ensures { λ r. ⌜ r ≡ spanOf (now (counts .entry)) (now (lens .entry)) i ⌝ }
 {

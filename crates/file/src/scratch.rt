@@ -12,7 +12,7 @@ use frame::cursor::PageAt;
 use page::contents::load;
 
 // The verdict on the contents of a page.
-pub fn page_holds(
+pub(crate) fn page_holds(
     s: &[u8],
     p: PageAt,
     counts: &mut [u16],

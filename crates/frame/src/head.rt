@@ -131,7 +131,7 @@ pub fn head_rules(edition: usize, b: &[u8]) -> Verdict
 }
 
 // The box that stands in bytes from a place on, of four finite patterns.
-pub fn box_at(s: &[u8], at: usize) -> Box
+pub(crate) fn box_at(s: &[u8], at: usize) -> Box
     requires { ⌜ (at + 32 ≤ length (now s)) × FiniteBox (boundsAt (now s) at) ⌝ }
     ensures { λ r. ⌜ r ≡ floatsOf (boundsAt (now (s .entry)) at) ⌝ }
 {
@@ -144,7 +144,7 @@ pub fn box_at(s: &[u8], at: usize) -> Box
 }
 
 // The head of a body that the rules let pass.
-pub fn read_head(edition: usize, b: &[u8]) -> Head
+pub(crate) fn read_head(edition: usize, b: &[u8]) -> Head
     requires { ⌜ ((h : Head) × (headOf edition (now b) ≡ ok h)) ⌝ }
     ensures { λ r. ⌜ headOf edition (now (b .entry)) ≡ ok r ⌝ }
 {

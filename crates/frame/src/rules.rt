@@ -69,7 +69,7 @@ fn kind_rules(s: &[u8], c: Cursor, b: Block) -> Verdict
 }
 
 // The block at a cursor. A refusal's page is the number of pages before it.
-pub fn block_rules(s: &[u8], c: Cursor) -> Verdict
+pub(crate) fn block_rules(s: &[u8], c: Cursor) -> Verdict
     requires { ⌜ c .pages ≤ 1024 ⌝ }
     ensures { λ r. ⌜ judged r ≡ passed (stepOf (now (s .entry)) c) ⌝ }
 {

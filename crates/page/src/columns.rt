@@ -10,7 +10,7 @@ use answer::Verdict;
 use frame::head::Head;
 
 // As many values of a column as the scratch holds.
-pub fn column_into(s: &[u8], out: &mut [u64]) -> Verdict
+pub(crate) fn column_into(s: &[u8], out: &mut [u64]) -> Verdict
     requires { ⌜ length (now out) ≤ 2048 ⌝ }
     ensures { λ r. ⌜ Given (decodeOf 64 (now (s .entry)) (length (now (out .entry)))) r (now (out .exit)) ⌝ }
 {
@@ -22,7 +22,7 @@ pub fn column_into(s: &[u8], out: &mut [u64]) -> Verdict
 }
 
 // The x column and the y column of a page, each as the part of the body that holds it.
-pub fn columns(b: &[u8], h: Head, xs: &mut [u64], ys: &mut [u64]) -> Verdict
+pub(crate) fn columns(b: &[u8], h: Head, xs: &mut [u64], ys: &mut [u64]) -> Verdict
     requires { ⌜ (length (now b) ≡ h .layout .columns + h .cx + h .cy) × (h .v ≤ 2048) × (length (now xs) ≡ h .v) × (length (now ys) ≡ h .v) ⌝ }
     ensures { λ r. ⌜ Columns h (now (b .entry)) r (now (xs .exit)) (now (ys .exit)) ⌝ }
 {

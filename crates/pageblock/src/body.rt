@@ -18,7 +18,7 @@ use le::run::put_u16s;
 use le::run::put_u32s;
 
 // How many shapes, vertices and parts.
-pub fn put_counts(d: &mut [u8], at: usize, g: usize, v: usize, p: usize)
+pub(crate) fn put_counts(d: &mut [u8], at: usize, g: usize, v: usize, p: usize)
     requires { ⌜ at + 6 ≤ length (now d) ⌝ }
     ensures { λ r. ⌜ now (d .exit) ≡ sets (now (d .entry)) at (countBytes g v p) ⌝ }
 {
@@ -39,7 +39,7 @@ fn put_four(d: &mut [u8], at: usize, least_x: u64, least_y: u64, greatest_x: u64
 }
 
 // The box of the vertices, all zero where there is none.
-pub fn put_box(d: &mut [u8], at: usize, xs: &[u64], ys: &[u64])
+pub(crate) fn put_box(d: &mut [u8], at: usize, xs: &[u64], ys: &[u64])
     requires { ⌜ (at + 32 ≤ length (now d)) × Sound (now xs) (now ys) ⌝ }
     ensures { λ r. ⌜ now (d .exit) ≡ sets (now (d .entry)) at (boxBytes (boxOf (now (xs .entry)) (now (ys .entry)))) ⌝ }
 {
@@ -59,7 +59,7 @@ pub fn put_box(d: &mut [u8], at: usize, xs: &[u64], ys: &[u64])
 }
 
 // The register numbers, the types, the part counts and the part lengths.
-pub fn put_tables(
+pub(crate) fn put_tables(
     d: &mut [u8],
     at: usize,
     registers: &[u32],
@@ -89,7 +89,7 @@ fn put_column(d: &mut [u8], at: usize, vs: &[u64], f: Fitted)
 }
 
 // The byte lengths of the two columns, and the columns.
-pub fn put_columns(d: &mut [u8], at: usize, xs: &[u64], ys: &[u64], fx: Fitted, fy: Fitted)
+pub(crate) fn put_columns(d: &mut [u8], at: usize, xs: &[u64], ys: &[u64], fx: Fitted, fy: Fitted)
     requires { ⌜ (at + 8 + fx .bytes + fy .bytes ≤ length (now d)) × Sound (now xs) (now ys) × Sized (now xs) fx × Sized (now ys) fy ⌝ }
     ensures { λ r. ⌜ now (d .exit) ≡ sets (now (d .entry)) at (columnBytes (now (xs .entry)) (now (ys .entry))) ⌝ }
 {

@@ -63,7 +63,7 @@ fn list_word(x: u64, n: usize, out: &mut [u32], at: usize) -> usize
 }
 
 // Lists the places of flags, of which there are n.
-pub fn list_flags(flags: &[u8], n: usize, out: &mut [u32])
+pub(crate) fn list_flags(flags: &[u8], n: usize, out: &mut [u32])
     requires { ⌜ (n ≡ length (placesIn 0 262144 (number (now flags)))) × (n ≤ length (now out)) ⌝ }
     ensures { λ r. ⌜ now (out .exit) ≡ sets (now (out .entry)) 0 (placesIn 0 262144 (number (now (flags .entry)))) ⌝ }
 {

@@ -15,7 +15,7 @@ use query::ask::hit;
 use types::parts::total;
 
 // How many shapes of a page are hit, the first of which has place n. Each is noted.
-pub fn shapes_hit(
+pub(crate) fn shapes_hit(
     a: Ask,
     n: usize,
     types: &[u8],

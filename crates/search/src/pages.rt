@@ -103,7 +103,7 @@ fn next_met(a: Ask, s: &[u8], from: Cursor) -> Cursor
 }
 
 // The hits of a file whose frame is sound, from the cursor after its first block.
-pub fn walk_hits(
+pub(crate) fn walk_hits(
     a: Ask,
     s: &[u8],
     from: Cursor,

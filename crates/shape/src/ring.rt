@@ -42,7 +42,7 @@ fn all_closed(lens: &[u16], xs: &[u64], ys: &[u64]) -> bool
 }
 
 // Whether a shape's parts are closed, if those of its type are.
-pub fn rings_closed(t: u8, lens: &[u16], xs: &[u64], ys: &[u64]) -> bool
+pub(crate) fn rings_closed(t: u8, lens: &[u16], xs: &[u64], ys: &[u64]) -> bool
     requires { ⌜ (t ≤ 6) × Cut (now lens) (now xs) (now ys) ⌝ }
     ensures { λ r. ⌜ r ≡ ringsClosed (outlineWith t (now (lens .entry)) (now (xs .entry)) (now (ys .entry))) ⌝ }
 {

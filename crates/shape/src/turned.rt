@@ -53,7 +53,7 @@ fn rings_turned(lens: &[u16], xs: &[u64], ys: &[u64]) -> bool
 }
 
 // Whether a shape's rings turn as they must, if it is a MultiPolygon.
-pub fn turns_hold(t: u8, lens: &[u16], xs: &[u64], ys: &[u64]) -> bool
+pub(crate) fn turns_hold(t: u8, lens: &[u16], xs: &[u64], ys: &[u64]) -> bool
     requires { ⌜ Cut (now lens) (now xs) (now ys) × (length (now xs) ≤ 2048) × (onGridShape (outlineWith t (now lens) (now xs) (now ys)) ≡ true) ⌝ }
     ensures { λ r. ⌜ r ≡ turnsHold (outlineWith t (now (lens .entry)) (now (xs .entry)) (now (ys .entry))) ⌝ }
 {

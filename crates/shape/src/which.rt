@@ -19,7 +19,7 @@ pub enum Which {
 }
 
 // Whether a shape passes one of them.
-pub fn shape_holds(w: Which, t: u8, lens: &[u16], xs: &[u64], ys: &[u64]) -> bool
+pub(crate) fn shape_holds(w: Which, t: u8, lens: &[u16], xs: &[u64], ys: &[u64]) -> bool
     requires { ⌜ (t ≤ 6) × Cut (now lens) (now xs) (now ys) × (readyFor w (outlineWith t (now lens) (now xs) (now ys)) ≡ true) ⌝ }
     ensures { λ r. ⌜ r ≡ testOf w (outlineWith t (now (lens .entry)) (now (xs .entry)) (now (ys .entry))) ⌝ }
 {

@@ -5,7 +5,7 @@ ghost use Prim.Native.Nat.{_≤_};
 ghost use lib.ListN.{length, drop};
 
 // Four words at the start; those behind them stay.
-pub fn put_four(words: &mut [u64], a: u64, b: u64, c: u64, d: u64)
+pub(crate) fn put_four(words: &mut [u64], a: u64, b: u64, c: u64, d: u64)
     requires { ⌜ 4 ≤ length (now words) ⌝ }
     ensures { λ r. ⌜ now (words .exit) ≡ (a ∷ b ∷ c ∷ d ∷ []) ++ drop 4 (now (words .entry)) ⌝ }
 {

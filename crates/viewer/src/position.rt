@@ -8,7 +8,7 @@ use crate::four::put_four;
 use column::Position;
 
 // Any four words are a position.
-pub fn position_of(words: &[u64]) -> Position
+pub(crate) fn position_of(words: &[u64]) -> Position
     requires { ⌜ 4 ≤ length (now words) ⌝ }
     ensures { λ r. ⌜ r ≡ positionOf (now (words .entry)) ⌝ }
 {
@@ -21,7 +21,7 @@ pub fn position_of(words: &[u64]) -> Position
 }
 
 // The words of a position.
-pub fn put_position(words: &mut [u64], p: Position)
+pub(crate) fn put_position(words: &mut [u64], p: Position)
     requires { ⌜ 4 ≤ length (now words) ⌝ }
     ensures { λ r. ⌜ now (words .exit) ≡ positionWords p ++ drop 4 (now (words .entry)) ⌝ }
 {

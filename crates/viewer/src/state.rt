@@ -33,7 +33,7 @@ fn flag_of(closed: bool) -> u64
 }
 
 // Any four words are a state.
-pub fn state_of(words: &[u64]) -> Writer
+pub(crate) fn state_of(words: &[u64]) -> Writer
     requires { ⌜ 4 ≤ length (now words) ⌝ }
     ensures { λ r. ⌜ r ≡ stateOf (now (words .entry)) ⌝ }
 {
@@ -60,7 +60,7 @@ fn put_state(words: &mut [u64], st: Writer)
 }
 
 // A step's answer as a word. Where the step was taken, its state goes in the words.
-pub fn hand_back(words: &mut [u64], r: Stepped) -> u64
+pub(crate) fn hand_back(words: &mut [u64], r: Stepped) -> u64
     requires { ⌜ 4 ≤ length (now words) ⌝ }
     ensures { λ x. ⌜ Told (judged (r .verdict)) (λ _. 0) (λ _. stateWords (r .writer)) (now (words .entry)) x (now (words .exit)) ⌝ }
 {

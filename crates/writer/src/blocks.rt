@@ -10,7 +10,7 @@ use le::number::put_u16;
 use le::number::put_u32;
 
 // The edition, at the buffer's start.
-pub fn put_first(d: &mut [u8])
+pub(crate) fn put_first(d: &mut [u8])
     requires { ⌜ 8 ≤ length (now d) ⌝ }
     ensures { λ r. ⌜ now (d .exit) ≡ sets (now (d .entry)) 0 firstBlock ⌝ }
 {
@@ -19,7 +19,7 @@ pub fn put_first(d: &mut [u8])
 }
 
 // How many pages, and how many shapes.
-pub fn put_end(d: &mut [u8], at: usize, pages: u32, shapes: u32)
+pub(crate) fn put_end(d: &mut [u8], at: usize, pages: u32, shapes: u32)
     requires { ⌜ at + 14 ≤ length (now d) ⌝ }
     ensures { λ r. ⌜ now (d .exit) ≡ sets (now (d .entry)) at (endBlock pages shapes) ⌝ }
 {
