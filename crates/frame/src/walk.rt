@@ -95,8 +95,8 @@ fn walk_from(s: &[u8], from: Cursor) -> Framed
                 shapes: c.shapes,
             });
         }
-        let g = glance(s, c);
-        c = g.next;
+        let l = glance(s, c);
+        c = l.next;
     }
 }
 

@@ -24,8 +24,7 @@ use Rattle.page.proofs.Contained.{contents-long}
 use Rattle.file.specs.File.{pagesOf, shapesIn}
 use Rattle.search.specs.Search.{placesOf, hitsFrom, pageHits, metOf, hitsOf, searchOf, countOf}
 use Rattle.search.proofs.Opened.{page-closed, page-open}
-use Rattle.search.proofs.Sequence.{met-none, met-order, hits-order}
-use Rattle.search.proofs.Meeting.{met-page}
+use Rattle.search.proofs.Sequence.{met-none, met-order, hits-order, met-page}
 use Rattle.search.proofs.Closed.{closed-none}
 use Rattle.search.proofs.Services.{search-hits}
 

@@ -3,6 +3,7 @@ pub mod Rising
 pub mod Sequence
 pub mod Placing
 pub mod Opened
+pub mod Skipping
 pub mod Meeting
 pub mod Bits
 pub mod Listing

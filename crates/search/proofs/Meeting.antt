@@ -1,24 +1,19 @@
 -- The walk over a file's pages: what was found with what is still to come is the whole. Assumes nothing.
-use mathlib.Core.Path.{_≡_, refl, sym, ap, subst, _∙_}
-use mathlib.Core.Bool.{true, false}
-use mathlib.Core.List.{List, [], _∷_, _++_, append-nil, append-assoc}
+use mathlib.Core.Path.{_≡_, refl, sym, ap, _∙_}
+use mathlib.Core.List.{List, [], _∷_, _++_}
 use Prim.Native.Nat.{ℕ, suc, _+_, _*_, _-_, _^_, _≤_, _<_}
 use native.Mathlib.Numerals.{add-one}
 use native.Mathlib.Omega.{arith}
 use lib.ListN.{length, length-append}
 use lib.Pow.{pow-mono}
 use Rattle.answer.specs.declared.Refusal.{Refusal}
-use Rattle.answer.specs.Outcome.{Out, refused, ok, on}
+use Rattle.answer.specs.Outcome.{Out, ok, on}
 use Rattle.le.specs.Number.{number}
-use Rattle.extent.specs.Boxes.{patterns}
 use Rattle.query.specs.declared.ask.Ask.{Ask}
-use Rattle.query.specs.Ask.{opens}
 use Rattle.frame.specs.declared.cursor.Cursor.{Cursor}
 use Rattle.frame.specs.declared.cursor.PageAt.{PageAt}
 use Rattle.frame.specs.Step.{page, end, firstOf, stepOf}
 use Rattle.frame.specs.Frame.{Page, Frame, pageOf, frameOf}
-use Rattle.answer.proofs.Outcomes.{ok-inj}
-use Rattle.frame.proofs.Steps.{page-not-end, page-inj}
 use Rattle.frame.proofs.Found.{first-is, Paged, page-is}
 use Rattle.frame.proofs.Walks.{pages-on, shapes-on, within-on}
 use Rattle.frame.specs.Ahead.{Ahead}
@@ -29,11 +24,11 @@ use Rattle.search.specs.Ascending.{Ascending}
 use Rattle.search.specs.Search.{pageHits, metOf, metIn}
 use Rattle.search.specs.Flags.{bitsOf}
 use Rattle.search.specs.Met.{Meets}
-use Rattle.search.specs.Skipped.{Skipping, Skips}
-use Rattle.page.proofs.Orders.{on-refused, on-value}
-use Rattle.search.proofs.Sequence.{met-none, met-cons, met-order}
+use Rattle.search.specs.Skipped.{Skipping}
+use Rattle.page.proofs.Orders.{on-value}
+use Rattle.search.proofs.Sequence.{met-none, met-order, met-refused, met-page, met-joined, met-alone, met-last, met-stopped}
 use Rattle.search.proofs.Rising.{rising-few, rising-under}
-use Rattle.search.proofs.Opened.{meets-refused, meets-ok, meets-refusal, meets-hits, page-ascends, page-closed}
+use Rattle.search.proofs.Opened.{meets-refused, meets-ok, meets-refusal, meets-hits, page-ascends}
 
 -- ---- bits of two runs of places
 
@@ -41,38 +36,6 @@ pub bits-append : (l m : List ℕ) → bitsOf (l ++ m) ≡ bitsOf l + bitsOf m
 unfolding bitsOf
 bits-append [] m = omega arith
 bits-append (p ∷ l) m = let r = bits-append l m in omega (arith, r)
-
--- ---- one page more
-
-module _ (a : Ask) (k n : ℕ) (p : Page) (ps : List Page) where
-  pub met-refused : (w : Refusal) → pageHits a k n p ≡ refused w → metOf a k n (p ∷ ps) ≡ refused w
-  met-refused w e = met-cons a k n p ps ∙ on-refused (pageHits a k n p) _ w e
-
-  pub met-page : (here : List ℕ) → pageHits a k n p ≡ ok here
-      → metOf a k n (p ∷ ps) ≡ on (metOf a (suc k) (n + p .head .g) ps) (λ rest. ok (here ++ rest))
-  met-page here e = met-cons a k n p ps ∙ on-value (pageHits a k n p) _ here e
-
--- one after another
-joined : (o : Out (List ℕ)) (l m : List ℕ) → on (on o (λ r. ok (m ++ r))) (λ r. ok (l ++ r)) ≡ on o (λ r. ok ((l ++ m) ++ r))
-unfolding on
-joined (refused w) l m = refl
-joined (ok r) l m = ap ok (sym (append-assoc l m r))
-
--- nothing before
-plain : (o : Out (List ℕ)) → o ≡ on o (λ l. ok ([] ++ l))
-unfolding on
-plain (refused w) = refl
-plain (ok l) = refl
-
--- nothing after
-last : (o : Out (List ℕ)) (l : List ℕ) → o ≡ ok [] → on o (λ r. ok (l ++ r)) ≡ ok l
-unfolding on
-last o l e = rw e (ap ok (append-nil l))
-
--- nothing at all
-stopped : (o : Out (List ℕ)) (l : List ℕ) (w : Refusal) → o ≡ refused w → on o (λ r. ok (l ++ r)) ≡ refused w
-unfolding on
-stopped o l w e = rw e
 
 -- ---- the walk
 
@@ -99,7 +62,7 @@ meeting-start a s d c f e q =
       pages = f .pages;
       done = [];
       ahead = ahead-first s f c e q .1;
-      same = met-order a s ∙ on-value (frameOf s) _ f e ∙ rw (n, m) (plain (metOf a 0 0 (f .pages)));
+      same = met-order a s ∙ on-value (frameOf s) _ f e ∙ rw (n, m) (met-alone (metOf a 0 0 (f .pages)));
       count = refl;
       few = omega arith;
       long = refl;
@@ -115,7 +78,7 @@ module _ (a : Ask) (s d₀ : List ℕ) (c : Cursor) (found : ℕ) (d : List ℕ)
       all : metIn a s ≡ ok (w .done)
       all =
           let z : w .pages ≡ [] = ahead-end s c (w .pages) (w .ahead) e in
-          w .same ∙ last (metOf a (c .pages) (c .shapes) (w .pages)) (w .done) (ap (metOf a (c .pages) (c .shapes)) z ∙ met-none a (c .pages) (c .shapes))
+          w .same ∙ met-last (metOf a (c .pages) (c .shapes) (w .pages)) (w .done) (ap (metOf a (c .pages) (c .shapes)) z ∙ met-none a (c .pages) (c .shapes))
 
   module _ (p : PageAt) (here : stepOf s c ≡ ok (page p)) where
     -- the page is found
@@ -139,7 +102,7 @@ module _ (a : Ask) (s d₀ : List ℕ) (c : Cursor) (found : ℕ) (d : List ℕ)
       meeting-refused x q =
           meets-refused x
           (w .same
-          ∙ stopped (metOf a (c .pages) (c .shapes) (w .pages)) (w .done) x
+          ∙ met-stopped (metOf a (c .pages) (c .shapes) (w .pages)) (w .done) x
           (ap (metOf a (c .pages) (c .shapes)) (rest .1) ∙ met-refused a (c .pages) (c .shapes) (pageOf s p) (rest .0) x (meets-refusal h m x q)))
 
       module _ (j : ℕ) (q : h ≡ Hits j) where
@@ -165,7 +128,7 @@ module _ (a : Ask) (s d₀ : List ℕ) (c : Cursor) (found : ℕ) (d : List ℕ)
             w .same
             ∙ ap (λ (ps : List Page). on (metOf a (c .pages) (c .shapes) ps) (λ l. ok (w .done ++ l))) (rest .1)
             ∙ ap (λ (x : Out (List ℕ)). on x (λ l. ok (w .done ++ l))) (met-page a (c .pages) (c .shapes) (pageOf s p) (rest .0) (own .0) (own .1))
-            ∙ joined o (w .done) (own .0)
+            ∙ met-joined o (w .done) (own .0)
             ∙ (λ i. on (metOf a (up i) (sym shapes i) (rest .0)) (λ l. ok ((w .done ++ own .0) ++ l)))
 
         grown : 262144 ≤ 8 * length d₀ → number d₀ < 2 ^ 0 → number e′ ≡ number d + bitsOf (own .0)
@@ -188,50 +151,7 @@ module _ (a : Ask) (s d₀ : List ℕ) (c : Cursor) (found : ℕ) (d : List ℕ)
             lower : 262144 ≤ 8 * length d₀ → number d₀ < 2 ^ 0 → number e′ < 2 ^ (p .next .shapes)
             lower x y = rw (shapes, grown x y) (rising-under {to = c .shapes + p .head .g} (c .shapes) (own .0) (number d) (omega arith) rise (w .low x y))
 
--- ---- pages that are passed by
-
--- no page yet
-pub skipping-start : (a : Ask) (s : List ℕ) (c : Cursor) (ps : List Page) → Ahead s c ps → Skipping a s c c
-skipping-start a s c ps h = record { coming = ps; left = ps; from-c = h; from-d = h; same = refl; onward = omega arith; further = omega arith }
-
-module _ (a : Ask) (s : List ℕ) (c d : Cursor) (k : Skipping a s c d) where
-  -- the end, where no page is opened
-  pub skips-end : stepOf s d ≡ ok end → Skips a s c d
-  skips-end e = record { skipping = k; opened = λ p h. absurd (page-not-end (ok-inj (sym h ∙ e))) }
-
-  module _ (p : PageAt) (here : stepOf s d ≡ ok (page p)) where
-    -- a page that is opened
-    pub skips-page : opens a (p .head .v) (patterns (p .head .bounds)) ≡ true → Skips a s c d
-    skips-page t = record {
-      skipping = k;
-      opened = λ q h. subst (λ (x : PageAt). opens a (x .head .v) (patterns (x .head .bounds)) ≡ true) (page-inj (ok-inj (sym here ∙ h))) t;
-    }
-
-    pub skipping-fewer : 1025 - p .next .pages < 1025 - d .pages
-    skipping-fewer = ahead-fewer s d (k .left) (k .from-d) p here
-
-    -- one that is not
-    pub skipping-more : opens a (p .head .v) (patterns (p .head .bounds)) ≡ false → Skipping a s c (p .next)
-    skipping-more t =
-        let r = ahead-page s d (k .left) (k .from-d) p here in
-        let paged = page-is s d p here in
-        let shapes : p .next .shapes ≡ d .shapes + p .head .g = shapes-on s d (k .from-d .within) p paged in
-        let up : suc (d .pages) ≡ p .next .pages = sym (pages-on s d (k .from-d .within) p paged ∙ add-one (d .pages)) in
-        record {
-          coming = k .coming;
-          left = r .0;
-          from-c = k .from-c;
-          from-d = r .2;
-          same = k .same
-              ∙ ap (metOf a (d .pages) (d .shapes)) (r .1)
-              ∙ met-page a (d .pages) (d .shapes) (pageOf s p) (r .0) [] (page-closed a (d .pages) (d .shapes) (pageOf s p) t)
-              ∙ sym (plain (metOf a (suc (d .pages)) (d .shapes + p .head .g) (r .0)))
-              ∙ (λ i. metOf a (up i) (sym shapes i) (r .0));
-          onward = omega (arith, up, k .onward);
-          further = omega (arith, shapes, k .further);
-        }
-
--- the walk goes on behind them
+-- it goes on behind pages that are passed by
 pub meeting-skip : (a : Ask) (s d₀ : List ℕ) (c : Cursor) (found : ℕ) (d : List ℕ) (e : Cursor) → Meeting a s d₀ c found d → Skipping a s c e → Meeting a s d₀ e found d
 meeting-skip a s d₀ c found d e w k = record {
   pages = k .left;

@@ -15,7 +15,7 @@ use Rattle.frame.proofs.Found.{page-is}
 use Rattle.frame.proofs.Ahead.{ahead-turn, ahead-stop, ahead-go}
 use Rattle.page.proofs.Loading.{head-box}
 use Rattle.search.specs.Skipped.{Skipping}
-use Rattle.search.proofs.Meeting.{skipping-start, skips-end, skips-page, skipping-fewer, skipping-more}
+use Rattle.search.proofs.Skipping.{skipping-start, skips-end, skips-page, skipping-fewer, skipping-more}
 use Rattle.search.proofs.pages.next_met.Statement.{statement}
 use Rattle.search.proofs.pages.next_met.Tie as tie
 

@@ -1,0 +1,73 @@
+"""The wrong versions in crates/NAME/must-fail and crates/NAME/wrong: what an edit's file says, and whether a prover's log shows it.
+
+A file's first line says what is wrong with the version. `refused: WHERE FACT` names the fact that no longer holds: FACT stands in proofs/WHERE.antt, or in proofs/WHERE/Proof.antt
+where WHERE is a function. Then, as for `rt must-fail`, one or more replacements: a line `file:` holds for the pairs of lines `old:` and `new:` after it.
+"""
+import collections
+import os
+import re
+
+ROOT = os.path.dirname(os.path.dirname(os.path.abspath(__file__)))
+
+Version = collections.namedtuple("Version", "crate folder label wrong where fact changes")
+Change = collections.namedtuple("Change", "file old new")
+
+
+def read(path):
+    """The text of a file."""
+    with open(path, encoding="utf-8", errors="replace") as f:
+        return f.read()
+
+
+def imports():
+    """The line of each crate in crates.txt, in that order."""
+    lines = [line.split("#")[0].strip() for line in read(f"{ROOT}/crates.txt").split("\n")]
+    return {line.split(":")[0].strip(): line for line in lines if ":" in line}
+
+
+def version(crate, folder, label):
+    """One version, as its file says it."""
+    lines = read(f"{ROOT}/crates/{crate}/{folder}/{label}.edit").split("\n")
+    where, fact, path, old, changes = "", "", "", "", []
+    for line in lines[1:]:
+        if line.startswith("refused: "):
+            where, fact = (line[9:].split(" ") + [""])[:2]
+        elif line.startswith("file: "):
+            path = line[6:]
+        elif line.startswith("old: "):
+            old = line[5:]
+        elif line.startswith("new:"):
+            changes.append(Change(path, old, line[4:].removeprefix(" ")))
+    return Version(crate, folder, label, lines[0], where, fact, tuple(changes))
+
+
+def versions(folder):
+    """All versions in one folder of the crates, in the order of crates.txt."""
+    found = []
+    for crate in imports():
+        home = f"{ROOT}/crates/{crate}/{folder}"
+        names = sorted(os.listdir(home)) if os.path.isdir(home) else []
+        found += [version(crate, folder, name[:-5]) for name in names if name.endswith(".edit")]
+    return found
+
+
+def function_of(one):
+    """The function in whose body alone a version differs, if its fact is one of that function's own proof; else nothing. Other functions see the contract alone, so that such
+    versions of different functions have nothing to do with each other."""
+    inside = set()
+    for change in one.changes:
+        before, found, _ = read(f"{ROOT}/crates/{one.crate}/{change.file}").partition(change.old)
+        names = re.findall(r"^ *(?:pub(?:\(crate\))? )?(?:extern \"C\" )?fn (\w+)", before, re.M)
+        opened = re.search(r"^ *{$", before[before.rfind(f"fn {names[-1]}") :], re.M) if names else None
+        inside.add(names[-1] if found and opened and change.file.startswith("src/") else "")
+    name = one.where.split("/")[-1]
+    return one.where if inside == {name} else ""
+
+
+def shows(said, one):
+    """Whether what the prover said has the version's fact refused for itself, and not because something else was refused before it."""
+    place = f"{re.escape(one.where)}(?:/Proof)?\\.antt:[0-9]+:[0-9]+"
+    refused = rf"^\S*/proofs/{place}: error: `{re.escape(one.fact)}`: (?!`[^`]*` was not admitted)"
+    name = re.escape("::".join([one.crate, *one.where.split("/")]))
+    open_ = rf"^fn {name}: no proof: .*`search` does not close .*`{re.escape(one.fact)}`"
+    return bool(one.fact) and bool(re.search(f"(?:{refused})|(?:{open_})", said, re.M))
