@@ -1,6 +1,19 @@
-"""Runs the command and counts what was looked at."""
+"""Runs the command and counts what was looked at.
+
+The watch over memory looks for leaks at the end of a run. On x86-64 that takes no time and is done at the end of each; elsewhere it goes through every place that could hold memory,
+some four seconds, and is done for the first run of each of the commands.
+"""
 import os
+import platform
 import subprocess
+
+LEAKS = platform.machine() == "x86_64"
+COMMANDS = ("check", "list", "show", "draw", "stats")
+
+
+def watched(leaks):
+    """The surroundings of a run: what the watch looks for, leaks among it or not."""
+    return dict(os.environ, UBSAN_OPTIONS="print_stacktrace=1", ASAN_OPTIONS=f"detect_leaks={int(leaks)}")
 
 
 class Tell:
@@ -8,12 +21,15 @@ class Tell:
 
     def __init__(self, command):
         self.command, self.made, self.wrong = command, 0, 0
-        self.surroundings = dict(os.environ, UBSAN_OPTIONS="print_stacktrace=1", ASAN_OPTIONS="detect_leaks=1")
+        self.surroundings, self.looked = watched(LEAKS), set()
 
     def run(self, *words, given=b"", out=subprocess.PIPE):
         """Runs it. Gives the status, and what it said on standard output and on standard error."""
         words = [word if isinstance(word, bytes) else str(word) for word in words]
-        done = subprocess.run([self.command, *words], input=given, stdout=out, stderr=subprocess.PIPE, env=self.surroundings, check=False)
+        first = words[:1] != [] and words[0] in COMMANDS and words[0] not in self.looked
+        self.looked.update(words[:1])
+        surroundings = watched(True) if first else self.surroundings
+        done = subprocess.run([self.command, *words], input=given, stdout=out, stderr=subprocess.PIPE, env=surroundings, check=False)
         said = done.stdout.decode("utf-8", "replace") if done.stdout is not None else ""
         return done.returncode, said, done.stderr.decode("utf-8", "replace")
 
