@@ -51,17 +51,22 @@ def versions(folder):
     return found
 
 
+def body_around(text, old):
+    """The name of the function in whose body some text stands; nothing where it stands in none."""
+    before, found, _ = text.partition(old)
+    heads = list(re.finditer(r"^ *(?:pub(?:\(crate\))? )?(?:extern \"C\" )?fn (\w+)", before, re.M))
+    opened = re.search(r"^( *){\n", before[heads[-1].start() :], re.M) if heads else None
+    if not found or not opened:
+        return ""
+    inside = before[heads[-1].start() + opened.end() :]
+    return "" if re.search(rf"^{opened.group(1)}}}$", inside, re.M) else heads[-1].group(1)
+
+
 def function_of(one):
     """The function in whose body alone a version differs, if its fact is one of that function's own proof; else nothing. Other functions see the contract alone, so that such
     versions of different functions have nothing to do with each other."""
-    inside = set()
-    for change in one.changes:
-        before, found, _ = read(f"{ROOT}/crates/{one.crate}/{change.file}").partition(change.old)
-        names = re.findall(r"^ *(?:pub(?:\(crate\))? )?(?:extern \"C\" )?fn (\w+)", before, re.M)
-        opened = re.search(r"^ *{$", before[before.rfind(f"fn {names[-1]}") :], re.M) if names else None
-        inside.add(names[-1] if found and opened and change.file.startswith("src/") else "")
-    name = one.where.split("/")[-1]
-    return one.where if inside == {name} else ""
+    names = {body_around(read(f"{ROOT}/crates/{one.crate}/{change.file}"), change.old) for change in one.changes}
+    return one.where if names == {one.where.split("/")[-1]} else ""
 
 
 def shows(said, one):

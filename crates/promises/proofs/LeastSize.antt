@@ -64,7 +64,10 @@ pub refused-room : (P : ℕ) (vs : List ℕ) (size : ℕ) → writeOf P vs size 
 refused-room P vs size h = go (leb (length vs) 2048) refl
   where
     over : 2048 < length vs → ⊥
-    over l = let w : because Table.many ≡ because Table.room = refused-inj (sym (write-many P vs size l) ∙ h) in let z : _≡_ {A = ℕ} 3 2 = ap (λ (r : Refusal). r .number) w in omega arith
+    over l =
+        let w : because Table.many ≡ because Table.room = refused-inj (sym (write-many P vs size l) ∙ h) in
+        let z : _≡_ {A = ℕ} 3 2 = ap (λ (r : Refusal). r .number) w in
+        omega arith
 
     least-over : length vs ≤ 2048 → size < length (encode P vs)
     least-over k = fits (leb (length (encode P vs)) size) refl

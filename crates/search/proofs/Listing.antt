@@ -35,7 +35,9 @@ module _ (d : List ℕ) (at : ℕ) (whole e : List ℕ) (k : ℕ) (rest : List �
 
   -- what is next has room
   pub listing-room : (here after : List ℕ) → rest ≡ here ++ after → at + length whole ≤ length d → k + length here ≤ length e
-  listing-room here after q r = let z : length rest ≡ length here + length after = ap length q ∙ length-append here after in omega (arith, z, w .count, w .long, r)
+  listing-room here after q r =
+      let z : length rest ≡ length here + length after = ap length q ∙ length-append here after in
+      omega (arith, z, w .count, w .long, r)
 
   pub listing-done : rest ≡ [] → (k ≡ at + length whole) × (e ≡ sets d at whole)
   listing-done z =

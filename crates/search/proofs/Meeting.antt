@@ -116,7 +116,10 @@ module _ (a : Ask) (s d₀ : List ℕ) (c : Cursor) (found : ℕ) (d : List ℕ)
         shapes = shapes-on s c (w .ahead .within) p meeting-paged
 
         pub meeting-few : found + j ≤ p .next .shapes
-        meeting-few = let o = own .2 in let b = rising-few {to = c .shapes + p .head .g} (c .shapes) (own .0) (omega arith) rise in omega (arith, o, b, w .few, shapes)
+        meeting-few =
+            let o = own .2 in
+            let b = rising-few {to = c .shapes + p .head .g} (c .shapes) (own .0) (omega arith) rise in
+            omega (arith, o, b, w .few, shapes)
 
         pub meeting-fits : found + j ≤ 262144
         meeting-fits = omega (arith, meeting-few, shapes, meeting-room)

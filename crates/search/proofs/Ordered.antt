@@ -64,7 +64,9 @@ module _ (a : Ask) (s l : List ℕ) (e : hitsOf a s ≡ ok l) where
       on-ok (frameOf s) _ l (sym (met-order a s) ∙ x .2)
 
   pub hits-ascend : Ascending (shapesOf (hits-met .0 .pages)) 0 l
-  hits-ascend = let z : 0 + shapesOf (hits-met .0 .pages) ≡ shapesOf (hits-met .0 .pages) = omega arith in subst (λ (to : ℕ). Ascending to 0 l) z (met-ascends (hits-met .0 .pages) a 0 0 l (hits-met .2))
+  hits-ascend =
+      let z : 0 + shapesOf (hits-met .0 .pages) ≡ shapesOf (hits-met .0 .pages) = omega arith in
+      subst (λ (to : ℕ). Ascending to 0 l) z (met-ascends (hits-met .0 .pages) a 0 0 l (hits-met .2))
 
   pub hits-within : Ascending 262144 0 l
   hits-within = rising-wider 0 0 l (omega arith) (frame-few s (hits-met .0) (hits-met .1)) hits-ascend

@@ -32,9 +32,10 @@ put-field-requires-2 c κs =
 
 put-field-requires-3 : tie.Need-put-field-requires-3
 put-field-requires-3 c κs =
+    let if1 = c .before .before .before .before .before .if1 in
     let st = c .before .before .before .before .before .before .before .before in
     let z = c .before .before .before .before .before .before .zigzag in
-    let le : marker (st .args .n) ≤ z .result = omega (arith, st .pre .1, c .before .before .before .before .before .if1 .left) in
+    let le : marker (st .args .n) ≤ z .result = omega (arith, st .pre .1, if1 .left) in
     (omega arith, st .fits .v .fits, omega (arith, full-bits 64 (st .args .n) (st .args .a) (st .args .v) (z .result) (z .ensures) le, st .pre .2, ap length (c .before .before .before .put-field2 .ensures), length-put (st .args .s .now) (st .args .at) (st .args .m)))
 
 add-result : tie.Need-add-result
@@ -45,9 +46,10 @@ same-length c = search needs
 
 returns : tie.Need-returns
 returns c =
+    let if1 = c .before .before .before .before .if1 in
     let st = c .before .before .before .before .before .before .before in
     let z = c .before .before .before .before .before .zigzag in
-    let lt : z .result < marker (st .args .n) = subst (λ (x : ℕ). z .result < x) (st .pre .1) (c .before .before .before .before .if1 .taken) in (
+    let lt : z .result < marker (st .args .n) = subst (λ (x : ℕ). z .result < x) (st .pre .1) (if1 .taken) in (
       short-put 64 (st .args .n) (st .args .a) (st .args .v) (z .result) (z .ensures) (st .args .s .now) (c .before .before .put-field .last .0) (st .args .at) lt (c .before .before .put-field .ensures),
       ap (λ (x : ℕ). st .args .at + x) (sym (short-bits 64 (st .args .n) (st .args .a) (st .args .v) (z .result) (z .ensures) lt)),
     )
@@ -57,10 +59,12 @@ same-length-2 c = search needs
 
 returns-2 : tie.Need-returns-2
 returns-2 c =
+    let if1 = c .before .before .before .before .before .before .before .before .if1 in
+    let put-field2 = c .before .before .before .before .before .before .put-field2 in
     let st = c .before .before .before .before .before .before .before .before .before .before .before in
     let z = c .before .before .before .before .before .before .before .before .before .zigzag in
-    let le : marker (st .args .n) ≤ z .result = subst (λ (x : ℕ). x ≤ z .result) (st .pre .1) (c .before .before .before .before .before .before .before .before .if1 .left) in (
-      full-put 64 (st .args .n) (st .args .a) (st .args .v) (z .result) (z .ensures) (st .args .s .now) (c .before .before .before .before .before .before .put-field2 .last .0) (c .before .before .put-field3 .last .0) (st .args .at) (st .args .m) (st .pre .1) le (c .before .before .before .before .before .before .put-field2 .ensures) (c .before .before .put-field3 .ensures),
+    let le : marker (st .args .n) ≤ z .result = subst (λ (x : ℕ). x ≤ z .result) (st .pre .1) (if1 .left) in (
+      full-put 64 (st .args .n) (st .args .a) (st .args .v) (z .result) (z .ensures) (st .args .s .now) (put-field2 .last .0) (c .before .before .put-field3 .last .0) (st .args .at) (st .args .m) (st .pre .1) le (put-field2 .ensures) (c .before .before .put-field3 .ensures),
       omega (arith, full-bits 64 (st .args .n) (st .args .a) (st .args .v) (z .result) (z .ensures) le),
     )
 

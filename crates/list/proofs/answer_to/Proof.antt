@@ -24,7 +24,9 @@ returns-2 c = search needs
 
 -- src/main.rt:116:18
 slice-aggregate-ask-of : tie.Need-slice-aggregate-ask-of
-slice-aggregate-ask-of c = let a = c .before .before .before .before .args in sym (length-take-le (a .len) (a .input .now) (omega (arith, c .before .before .if1 .left)))
+slice-aggregate-ask-of c =
+    let a = c .before .before .before .before .args in
+    sym (length-take-le (a .len) (a .input .now) (omega (arith, c .before .before .if1 .left)))
 
 -- src/main.rt:116:11
 ask-of-requires : tie.Need-ask-of-requires

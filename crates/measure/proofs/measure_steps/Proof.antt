@@ -60,13 +60,14 @@ loop-less c = omega arith
 
 loop-again : tie.Need-loop-again Inv-loop μ-loop
 loop-again c =
+    let loop-test = c .before .before .before .before .before .loop-test in
     let st = c .before .before .before .before .before .before .before .before .before in
     let l = c .before .before .before .before .before .before .loop in
     let n = c .before .before .before .before .next in
     let v = c .before .before .a .given in (
       omega arith,
       omega (arith, c .wrapping-add-u64 .ensures),
-      l .inv .2 ∙ sum-more (st .args .s .now) (st .args .n) (l .left) (l .p) (l .sum) (n .result) (n .ensures) (v .0 .0) (v .0 .1 .0) (c .before .before .before .before .before .loop-test .taken) (v .1)
+      l .inv .2 ∙ sum-more (st .args .s .now) (st .args .n) (l .left) (l .p) (l .sum) (n .result) (n .ensures) (v .0 .0) (v .0 .1 .0) (loop-test .taken) (v .1)
           ∙ ap (λ (x : ℕ). (x + sumOf (given (st .args .s .now) (st .args .n) (l .left - 1) (v .0 .1 .0))) % 2 ^ 64) (sym (c .wrapping-add-u64 .ensures)),
     )
 

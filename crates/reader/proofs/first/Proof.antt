@@ -37,26 +37,32 @@ refused-requires-2 c κs = search needs
 
 returns-3 : tie.Need-returns-3
 returns-3 c =
+    let if1 = c .before .before .before .before .before .if1 in
+    let if2 = c .before .before .before .before .if2 in
     let a = c .before .before .before .before .before .before .before .args in
-    c .refused2 .ensures ∙ said-refused (a .p) Table.wide (first-wide 64 (a .s .now) (a .n) (c .before .before .before .before .before .if1 .left) (c .before .before .before .before .if2 .left) (omega (arith, c .before .before .wide .ensures, c .before .if3 .taken)))
+    c .refused2 .ensures ∙ said-refused (a .p) Table.wide (first-wide 64 (a .s .now) (a .n) (if1 .left) (if2 .left) (omega (arith, c .before .before .wide .ensures, c .before .if3 .taken)))
 
 refused-requires-3 : tie.Need-refused-requires-3
 refused-requires-3 c κs = search needs
 
 returns-4 : tie.Need-returns-4
 returns-4 c =
+    let if1 = c .before .before .before .before .before .before .if1 in
+    let if2 = c .before .before .before .before .before .if2 in
     let a = c .before .before .before .before .before .before .before .before .args in
     c .refused3 .ensures ∙ said-refused (a .p) Table.bits
-    (first-short 64 (a .s .now) (a .n) (c .before .before .before .before .before .before .if1 .left) (c .before .before .before .before .before .if2 .left) (omega (arith, c .before .before .before .wide .ensures, c .before .before .if3 .left)) (omega (arith, c .before .if4 .taken)))
+    (first-short 64 (a .s .now) (a .n) (if1 .left) (if2 .left) (omega (arith, c .before .before .before .wide .ensures, c .before .before .if3 .left)) (omega (arith, c .before .if4 .taken)))
 
 window-requires : tie.Need-window-requires
 window-requires c κs = search needs
 
 returns-5 : tie.Need-returns-5
 returns-5 c =
+    let if1 = c .before .before .before .before .before .before .if1 in
+    let if2 = c .before .before .before .before .before .if2 in
     let a = c .before .before .before .before .before .before .before .before .args in
     ap₂ (λ (v w : ℕ). Value v (position 72 1 w v)) (c .window .ensures) (c .before .before .before .wide .ensures)
-    ∙ said-value (a .p) _ _ (first-value 64 (a .s .now) (a .n) (c .before .before .before .before .before .before .if1 .left) (c .before .before .before .before .before .if2 .left) (omega (arith, c .before .before .before .wide .ensures, c .before .before .if3 .left)) (omega (arith, c .before .if4 .left)))
+    ∙ said-value (a .p) _ _ (first-value 64 (a .s .now) (a .n) (if1 .left) (if2 .left) (omega (arith, c .before .before .before .wide .ensures, c .before .before .if3 .left)) (omega (arith, c .before .if4 .left)))
 
 pub first-spec : {M : Type 1} → statement M
 first-spec =

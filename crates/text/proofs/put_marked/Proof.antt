@@ -19,19 +19,31 @@ slice-aggregate-put-bytes c = search needs
 
 -- src/lib.rt:17:5
 put-bytes-requires : tie.Need-put-bytes-requires
-put-bytes-requires c κs = let d = c .before .before .decimal in let k = fewest-20 _ _ (d .ensures .1 .0) (c .before .before .before .before .before .fits .n .fits) in omega (arith, k, d .ensures .0 .1, c .before .before .before .before .before .pre)
+put-bytes-requires c κs =
+    let d = c .before .before .decimal in
+    let k = fewest-20 _ _ (d .ensures .1 .0) (c .before .before .before .before .before .fits .n .fits) in
+    omega (arith, k, d .ensures .0 .1, c .before .before .before .before .before .pre)
 
 -- src/lib.rt:18:15
 add-end : tie.Need-add-end
-add-end c = let d = c .before .before .before .before .before .decimal in let k = fewest-20 _ _ (d .ensures .1 .0) (c .before .before .before .before .before .before .before .before .fits .n .fits) in omega (arith, k, c .before .before .before .before .before .before .before .before .pre, c .before .before .before .before .before .before .before .before .good .0 .0)
+add-end c =
+    let d = c .before .before .before .before .before .decimal in
+    let k = fewest-20 _ _ (d .ensures .1 .0) (c .before .before .before .before .before .before .before .before .fits .n .fits) in
+    omega (arith, k, c .before .before .before .before .before .before .before .before .pre, c .before .before .before .before .before .before .before .before .good .0 .0)
 
 -- src/lib.rt:19:5
 slice-write-out : tie.Need-slice-write-out
-slice-write-out c = let d = c .before .before .before .before .before .decimal in let k = fewest-20 _ _ (d .ensures .1 .0) (c .before .before .before .before .before .before .before .before .fits .n .fits) in omega (arith, k, c .before .before .before .before .before .before .before .before .pre, c .before .before .put-bytes .kept)
+slice-write-out c =
+    let d = c .before .before .before .before .before .decimal in
+    let k = fewest-20 _ _ (d .ensures .1 .0) (c .before .before .before .before .before .before .before .before .fits .n .fits) in
+    omega (arith, k, c .before .before .before .before .before .before .before .before .pre, c .before .before .put-bytes .kept)
 
 -- src/lib.rt:20:5
 add-result : tie.Need-add-result
-add-result c = let d = c .before .before .before .before .before .decimal in let k = fewest-20 _ _ (d .ensures .1 .0) (c .before .before .before .before .before .before .before .before .fits .n .fits) in omega (arith, k, c .before .before .before .before .before .before .before .before .pre, c .before .before .before .before .before .before .before .before .good .0 .0)
+add-result c =
+    let d = c .before .before .before .before .before .decimal in
+    let k = fewest-20 _ _ (d .ensures .1 .0) (c .before .before .before .before .before .before .before .before .fits .n .fits) in
+    omega (arith, k, c .before .before .before .before .before .before .before .before .pre, c .before .before .before .before .before .before .before .before .good .0 .0)
 
 -- src/lib.rt:11:1
 same-length : tie.Need-same-length
@@ -39,7 +51,11 @@ same-length c = search needs
 
 -- src/lib.rt:11:1
 returns : tie.Need-returns
-returns c = let a = c .before .before .before .before .before .before .before .before .args in let d = c .before .before .before .before .before .decimal in marked-put (a .out .now) _ _ (a .at) (d .result) (a .n) (a .mark) (c .before .before .before .before .before .before .before .before .fits .n .fits) (d .ensures .1 .0) (d .ensures .0) (d .ensures .1 .1) (c .before .before .put-bytes .ensures)
+returns c =
+    let fits = c .before .before .before .before .before .before .before .before .fits in
+    let a = c .before .before .before .before .before .before .before .before .args in
+    let d = c .before .before .before .before .before .decimal in
+    marked-put (a .out .now) _ _ (a .at) (d .result) (a .n) (a .mark) (fits .n .fits) (d .ensures .1 .0) (d .ensures .0) (d .ensures .1 .1) (c .before .before .put-bytes .ensures)
 
 pub put-marked-spec : {M : Type 1} → statement M
 put-marked-spec =

@@ -11,11 +11,18 @@ put-marked-requires c κs = search needs
 
 -- src/lib.rt:29:9
 put-marked-requires-2 : tie.Need-put-marked-requires-2
-put-marked-requires-2 c κs = let a = c .before .before .before .before .before .before .args in omega (arith, c .before .before .before .before .before .before .pre, c .before .before .before .put-marked .ensures .0, c .before .before .out .given, marked-length (a .place) 32)
+put-marked-requires-2 c κs =
+    let a = c .before .before .before .before .before .before .args in
+    omega (arith, c .before .before .before .before .before .before .pre, c .before .before .before .put-marked .ensures .0, c .before .before .out .given, marked-length (a .place) 32)
 
 -- src/lib.rt:30:5
 put-marked-requires-3 : tie.Need-put-marked-requires-3
-put-marked-requires-3 c κs = let a = c .before .before .before .before .before .before .before .before .before .before .args in omega (arith, c .before .before .before .before .before .before .before .before .before .before .pre, c .before .before .before .before .before .before .before .put-marked .ensures .0, c .before .before .before .before .before .before .out .given, c .before .before .before .put-marked2 .ensures .0, c .before .before .out2 .given, marked-length (a .place) 32, marked-length (a .register) 32)
+put-marked-requires-3 c κs =
+    let pre = c .before .before .before .before .before .before .before .before .before .before .pre in
+    let put-marked = c .before .before .before .before .before .before .before .put-marked in
+    let out = c .before .before .before .before .before .before .out in
+    let a = c .before .before .before .before .before .before .before .before .before .before .args in
+    omega (arith, pre, put-marked .ensures .0, out .given, c .before .before .before .put-marked2 .ensures .0, c .before .before .out2 .given, marked-length (a .place) 32, marked-length (a .register) 32)
 
 -- src/lib.rt:24:1
 same-length : tie.Need-same-length
@@ -23,7 +30,11 @@ same-length c = search needs
 
 -- src/lib.rt:24:1
 returns : tie.Need-returns
-returns c = let a = c .before .before .before .before .before .before .before .before .before .before .before .before .before .args in row-put (a .out .now) _ _ _ (a .at) _ _ _ (a .place) (a .register) (a .kind) (c .before .before .before .before .before .before .before .before .before .before .put-marked .ensures) (c .before .before .before .before .before .before .put-marked2 .ensures) (c .before .before .put-marked3 .ensures)
+returns c =
+    let put-marked = c .before .before .before .before .before .before .before .before .before .before .put-marked in
+    let put-marked2 = c .before .before .before .before .before .before .put-marked2 in
+    let a = c .before .before .before .before .before .before .before .before .before .before .before .before .before .args in
+    row-put (a .out .now) _ _ _ (a .at) _ _ _ (a .place) (a .register) (a .kind) (put-marked .ensures) (put-marked2 .ensures) (c .before .before .put-marked3 .ensures)
 
 pub put-row-spec : {M : Type 1} → statement M
 put-row-spec =

@@ -38,8 +38,10 @@ refused-requires-3 c κs = search needs
 
 returns-4 : tie.Need-returns-4
 returns-4 c =
+    let if1 = c .before .before .before .before .before .if1 in
+    let if3 = c .before .before .before .before .if3 in
     let a = c .before .before .before .before .before .before .before .before .args in
-    rw (c .refused3 .ensures) (decodes-wide 64 (a .s .now) (a .n) (a .out .now) (c .before .before .before .before .before .if1 .left) (c .before .before .before .before .if3 .left) (omega (arith, c .before .before .wide .ensures, c .before .if4 .taken)))
+    rw (c .refused3 .ensures) (decodes-wide 64 (a .s .now) (a .n) (a .out .now) (if1 .left) (if3 .left) (omega (arith, c .before .before .wide .ensures, c .before .if4 .taken)))
 
 fill-requires : tie.Need-fill-requires
 fill-requires c κs = search needs
@@ -55,8 +57,13 @@ same-length c = search needs
 
 returns-5 : tie.Need-returns-5
 returns-5 c =
+    let if1 = c .before .before .before .before .before .before .before .before .before .before .if1 in
+    let if3 = c .before .before .before .before .before .before .before .before .before .if3 in
+    let wide = c .before .before .before .before .before .before .before .wide in
+    let if4 = c .before .before .before .before .before .before .if4 in
+    let fill = c .before .before .before .before .fill in
     let a = c .before .before .before .before .before .before .before .before .before .before .before .before .before .args in
-    rw (c .refused4 .ensures) (decodes-bits 64 (a .s .now) (a .n) (a .out .now) (c .before .before .before .before .before .before .before .before .before .before .if1 .left) (c .before .before .before .before .before .before .before .before .before .if3 .left) (omega (arith, c .before .before .before .before .before .before .before .wide .ensures, c .before .before .before .before .before .before .if4 .left)) (c .before .before .before .before .fill .result) (c .before .before .before .before .fill .last .1 .1 .1 .0) (c .before .before .before .before .fill .ensures .0) (c .before .before .before .before .fill .ensures .1) (c .before .if5 .taken))
+    rw (c .refused4 .ensures) (decodes-bits 64 (a .s .now) (a .n) (a .out .now) (if1 .left) (if3 .left) (omega (arith, wide .ensures, if4 .left)) (fill .result) (fill .last .1 .1 .1 .0) (fill .ensures .0) (fill .ensures .1) (c .before .if5 .taken))
 
 window-requires : tie.Need-window-requires
 window-requires c κs = search needs
@@ -69,16 +76,28 @@ same-length-2 c = search needs
 
 returns-6 : tie.Need-returns-6
 returns-6 c =
+    let shared-slice-known = c .before .before .before .before .before .before .before .before .before .before .before .before .before .before .shared-slice-known in
+    let if1 = c .before .before .before .before .before .before .before .before .before .before .before .before .if1 in
+    let if3 = c .before .before .before .before .before .before .before .before .before .before .before .if3 in
+    let wide = c .before .before .before .before .before .before .before .before .before .wide in
+    let if4 = c .before .before .before .before .before .before .before .before .if4 in
+    let fill = c .before .before .before .before .before .before .fill in
     let a = c .before .before .before .before .before .before .before .before .before .before .before .before .before .before .before .args in
-    rw (c .refused5 .ensures) (decodes-fill 64 (a .s .now) (a .n) (a .out .now) (c .before .before .before .before .before .before .before .before .before .before .before .before .if1 .left) (c .before .before .before .before .before .before .before .before .before .before .before .if3 .left) (omega (arith, c .before .before .before .before .before .before .before .before .before .wide .ensures, c .before .before .before .before .before .before .before .before .if4 .left)) (c .before .before .before .before .before .before .fill .result) (c .before .before .before .before .before .before .fill .last .1 .1 .1 .0) (c .before .before .before .before .before .before .fill .ensures .0) (c .before .before .before .before .before .before .fill .ensures .1) (λ i. c .before .before .before .before .before .before .before .before .before .before .before .before .before .before .shared-slice-known .given i .fits) (c .before .before .before .if5 .left) (λ z. c .before .if6 .taken (c .before .before .window .ensures ∙ z)))
+    rw (c .refused5 .ensures) (decodes-fill 64 (a .s .now) (a .n) (a .out .now) (if1 .left) (if3 .left) (omega (arith, wide .ensures, if4 .left)) (fill .result) (fill .last .1 .1 .1 .0) (fill .ensures .0) (fill .ensures .1) (λ i. shared-slice-known .given i .fits) (c .before .before .before .if5 .left) (λ z. c .before .if6 .taken (c .before .before .window .ensures ∙ z)))
 
 same-length-3 : tie.Need-same-length-3
 same-length-3 c = search needs
 
 returns-7 : tie.Need-returns-7
 returns-7 c =
+    let shared-slice-known = c .before .before .before .before .before .before .before .before .before .before .before .before .before .shared-slice-known in
+    let if1 = c .before .before .before .before .before .before .before .before .before .before .before .if1 in
+    let if3 = c .before .before .before .before .before .before .before .before .before .before .if3 in
+    let wide = c .before .before .before .before .before .before .before .before .wide in
+    let if4 = c .before .before .before .before .before .before .before .if4 in
+    let fill = c .before .before .before .before .before .fill in
     let a = c .before .before .before .before .before .before .before .before .before .before .before .before .before .before .args in
-    decodes-good 64 (a .s .now) (a .n) (a .out .now) (c .before .before .before .before .before .before .before .before .before .before .before .if1 .left) (c .before .before .before .before .before .before .before .before .before .before .if3 .left) (omega (arith, c .before .before .before .before .before .before .before .before .wide .ensures, c .before .before .before .before .before .before .before .if4 .left)) (c .before .before .before .before .before .fill .result) (c .before .before .before .before .before .fill .last .1 .1 .1 .0) (c .before .before .before .before .before .fill .ensures .0) (c .before .before .before .before .before .fill .ensures .1) (λ i. c .before .before .before .before .before .before .before .before .before .before .before .before .before .shared-slice-known .given i .fits) (c .before .before .if5 .left) (sym (c .before .window .ensures) ∙ c .if6 .left)
+    decodes-good 64 (a .s .now) (a .n) (a .out .now) (if1 .left) (if3 .left) (omega (arith, wide .ensures, if4 .left)) (fill .result) (fill .last .1 .1 .1 .0) (fill .ensures .0) (fill .ensures .1) (λ i. shared-slice-known .given i .fits) (c .before .before .if5 .left) (sym (c .before .window .ensures) ∙ c .if6 .left)
 
 pub decode-spec : {M : Type 1} → statement M
 decode-spec =

@@ -34,15 +34,20 @@ fill-rest-requires c κs =
     )
 
 same-length : tie.Need-same-length
-same-length c = c .before .before .fill-rest .ensures .0 .same ∙ c .before .before .before .before .before .before .fill-inside .ensures .same ∙ length-set (c .before .before .before .before .before .before .before .before .before .before .before .before .args .out .now) 0 (c .before .before .before .before .before .before .before .before .window .result)
+same-length c =
+    let args = c .before .before .before .before .before .before .before .before .before .before .before .before .args in
+    let window = c .before .before .before .before .before .before .before .before .window in
+    let fill-inside = c .before .before .before .before .before .before .fill-inside in
+    c .before .before .fill-rest .ensures .0 .same ∙ fill-inside .ensures .same ∙ length-set (args .out .now) 0 (window .result)
 
 returns : tie.Need-returns
 returns c =
+    let window = c .before .before .before .before .before .before .before .before .window in
     let st = c .before .before .before .before .before .before .before .before .before .before .before .before in
     let i = c .before .before .before .before .before .before .fill-inside in
     let r = c .before .before .fill-rest in
-    let f = filled-all 64 (st .args .s .now) (st .args .out .now) (i .last .1 .1 .1 .1 .0) (r .last .1 .1 .1 .1 .0) (st .args .n) (st .args .w) (c .before .before .before .before .before .before .before .before .window .result) (i .result) (r .result)
-    (st .pre .0) (c .before .before .before .before .before .before .before .before .window .ensures) (st .pre .2) (st .pre .4) (i .ensures) (r .ensures .0) (r .ensures .1) in
+    let f = filled-all 64 (st .args .s .now) (st .args .out .now) (i .last .1 .1 .1 .1 .0) (r .last .1 .1 .1 .1 .0) (st .args .n) (st .args .w) (window .result) (i .result) (r .result)
+    (st .pre .0) (window .ensures) (st .pre .2) (st .pre .4) (i .ensures) (r .ensures .0) (r .ensures .1) in
     (f .0, f .1, omega (arith, i .ensures .bound, r .ensures .0 .bound, r .ensures .1, st .pre .3))
 
 pub fill-spec : {M : Type 1} → statement M

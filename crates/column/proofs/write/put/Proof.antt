@@ -36,6 +36,7 @@ marker-requires c κs = search needs
 
 put-entries-requires : tie.Need-put-entries-requires
 put-entries-requires c κs =
+    let put-field = c .before .before .before .before .before .before .before .before .before .put-field in
     let st = c .before .before .before .before .before .before .before .before .before .before .before .before .before .before in
     let some : 0 < length (st .args .vs .now) = omega (arith, c .before .before .before .before .before .before .before .before .before .before .before .if1 .left) in
     let size = part-size 64 (st .args .n) (st .args .vs .now) (st .args .part .now) some (st .pre .2) in (
@@ -47,8 +48,8 @@ put-entries-requires c κs =
         arith,
         size,
         ap length (c .before .before .before .before .put-field2 .ensures),
-        length-put (c .before .before .before .before .before .before .before .before .before .put-field .last .0) 8 (getD (st .args .vs .now) 0 0),
-        ap length (c .before .before .before .before .before .before .before .before .before .put-field .ensures),
+        length-put (put-field .last .0) 8 (getD (st .args .vs .now) 0 0),
+        ap length (put-field .ensures),
         length-put (st .args .part .now) 0 (st .args .n),
       ),
     )
@@ -68,11 +69,17 @@ same-length c = search needs
 
 returns-2 : tie.Need-returns-2
 returns-2 c =
+    let slice-known = c .before .before .before .before .before .before .before .before .before .before .before .before .before .before .before .before .before .before .before .before .slice-known in
+    let shared-slice-known = c .before .before .before .before .before .before .before .before .before .before .before .before .before .before .before .before .before .before .before .shared-slice-known in
+    let if1 = c .before .before .before .before .before .before .before .before .before .before .before .before .before .before .before .before .before .before .if1 in
+    let put-field = c .before .before .before .before .before .before .before .before .before .before .before .before .before .before .before .before .put-field in
+    let put-field2 = c .before .before .before .before .before .before .before .before .before .before .before .put-field2 in
+    let put-entries = c .before .before .before .before .before .before .put-entries in
     let st = c .before .before .before .before .before .before .before .before .before .before .before .before .before .before .before .before .before .before .before .before .before in
-    let some : 0 < length (st .args .vs .now) = omega (arith, c .before .before .before .before .before .before .before .before .before .before .before .before .before .before .before .before .before .before .if1 .left) in
-    put-all 64 (st .args .n) (st .args .vs .now) (st .args .part .now) some (st .pre .2) (c .before .before .before .before .before .before .before .before .before .before .before .before .before .before .before .before .put-field .last .0) (c .before .before .before .before .before .before .before .before .before .before .before .put-field2 .last .0) (c .before .before .before .before .before .before .put-entries .last .0) (c .before .before .put-field3 .last .0) (c .before .before .before .before .before .before .put-entries .result)
-    (st .pre .0) (omega arith) (λ i. c .before .before .before .before .before .before .before .before .before .before .before .before .before .before .before .before .before .before .before .before .slice-known .given i .fits) (all-below 64 (st .args .vs .now) (λ i. c .before .before .before .before .before .before .before .before .before .before .before .before .before .before .before .before .before .before .before .shared-slice-known .given i .fits))
-    (c .before .before .before .before .before .before .before .before .before .before .before .before .before .before .before .before .put-field .ensures) (c .before .before .before .before .before .before .before .before .before .before .before .put-field2 .ensures) (c .before .before .before .before .before .before .put-entries .ensures) (c .before .before .put-field3 .ensures)
+    let some : 0 < length (st .args .vs .now) = omega (arith, if1 .left) in
+    put-all 64 (st .args .n) (st .args .vs .now) (st .args .part .now) some (st .pre .2) (put-field .last .0) (put-field2 .last .0) (put-entries .last .0) (c .before .before .put-field3 .last .0) (put-entries .result)
+    (st .pre .0) (omega arith) (λ i. slice-known .given i .fits) (all-below 64 (st .args .vs .now) (λ i. shared-slice-known .given i .fits))
+    (put-field .ensures) (put-field2 .ensures) (put-entries .ensures) (c .before .before .put-field3 .ensures)
 
 pub put-spec : {M : Type 1} → statement M
 put-spec =

@@ -40,7 +40,10 @@ loop-less : tie.Need-loop-less Inv-loop μ-loop
 loop-less c = omega arith
 
 loop-again : tie.Need-loop-again Inv-loop μ-loop
-loop-again c = putting-more (c .before .before .before .before .before .before .loop .inv) (c .before .before .put-entry .last .0) (c .before .before .put-entry .result) (c .before .before .before .before .before .loop-test .taken) (c .before .before .put-entry .ensures)
+loop-again c =
+    let loop = c .before .before .before .before .before .before .loop in
+    let loop-test = c .before .before .before .before .before .loop-test in
+    putting-more (loop .inv) (c .before .before .put-entry .last .0) (c .before .before .put-entry .result) (loop-test .taken) (c .before .before .put-entry .ensures)
 
 same-length : tie.Need-same-length Inv-loop μ-loop
 same-length c = c .before .loop .inv .long

@@ -52,9 +52,11 @@ same-length c = search needs
 
 returns-3 : tie.Need-returns-3
 returns-3 c =
+    let if1 = c .before .before .before .before .before .before .if1 in
+    let if2 = c .before .before .before .before .if2 in
     let a = c .before .before .before .before .before .before .before .before .before .args in
     let f = c .before .before .before .before .before .fit in
-    fills-ok (encode 64 (a .vs .now)) (f .result .bytes) _ (write-bytes 64 (a .vs .now) (length (a .out .now)) (c .before .before .before .before .before .before .if1 .left) (omega (arith, f .ensures .1, c .before .before .before .before .if2 .left))) (f .ensures .1)
+    fills-ok (encode 64 (a .vs .now)) (f .result .bytes) _ (write-bytes 64 (a .vs .now) (length (a .out .now)) (if1 .left) (omega (arith, f .ensures .1, if2 .left))) (f .ensures .1)
     (ap (λ (x : List ℕ). x ++ drop (f .result .bytes) (a .out .now)) (c .before .before .put .ensures ∙ encode-is 64 (f .result .width) (a .vs .now) (f .ensures .0)))
 
 pub write-spec : {M : Type 1} → statement M

@@ -23,7 +23,9 @@ greater-of-requires : tie.Need-greater-of-requires
 greater-of-requires c κs = let s = c .before .before .before .before .pre in (search needs, ap finite (c .before .before .before .float-of .ensures .1) ∙ s .1)
 
 greater-of-requires-2 : tie.Need-greater-of-requires-2
-greater-of-requires-2 c κs = let s = c .before .before .before .before .before .pre in (search needs, ap finite (c .before .before .before .float-of2 .ensures .1) ∙ s .2)
+greater-of-requires-2 c κs =
+    let s = c .before .before .before .before .before .pre in
+    (search needs, ap finite (c .before .before .before .float-of2 .ensures .1) ∙ s .2)
 
 returns : tie.Need-returns
 returns c =

@@ -41,9 +41,12 @@ same-length-3 c = search needs
 
 returns-2 : tie.Need-returns-2
 returns-2 c =
+    let seat = c .before .before .before .before .before .before .before .before .before .before .before .before .before .seat in
+    let t′ = c .before .before .before .before .before .before .before .before .before .before .before .t in
+    let opened = c .before .before .before .before .before .before .opened in
     let a = c .before .before .before .before .before .before .before .before .before .before .before .before .before .before .before .before .before .before .args in
-    let t = c .before .before .before .before .before .before .before .before .before .before .before .t .given in
-    rw (fetch-seat (a .s .now) (a .place) (roomsOf (a .lens .now) (a .xs .now) (a .ys .now)) _ (sought-seat (a .s .now) (a .place) _ (c .before .before .before .before .before .before .before .before .before .before .before .before .before .seat .ensures) (t .0 .0) (t .1))) (c .before .before .before .before .before .before .opened .ensures)
+    let t = t′ .given in
+    rw (fetch-seat (a .s .now) (a .place) (roomsOf (a .lens .now) (a .xs .now) (a .ys .now)) _ (sought-seat (a .s .now) (a .place) _ (seat .ensures) (t .0 .0) (t .1))) (opened .ensures)
 
 pub fetch-spec : {M : Type 1} → statement M
 fetch-spec =

@@ -34,9 +34,10 @@ same-length-4 c = search needs
 
 returns : tie.Need-returns
 returns c =
+    let load = c .before .before .before .before .before .before .before .before .before .before .before .before .load in
     let st = c .before .before .before .before .before .before .before .before .before .before .before .before .before .before .before .before .before .before .before .before .before .before .before .before .before in
     let w = c .before .before .w .given in
-    rw (c .on-page .ensures) (fetches-refused _ (load-refused (st .args .h) (st .args .b .now) (st .args .k) (st .args .i) _ (w .0 .0) (rw (w .1) at (c .before .before .before .before .before .before .before .before .before .before .before .before .load .ensures .verdict))))
+    rw (c .on-page .ensures) (fetches-refused _ (load-refused (st .args .h) (st .args .b .now) (st .args .k) (st .args .i) _ (w .0 .0) (rw (w .1) at (load .ensures .verdict))))
 
 enum-told : tie.Need-enum-told
 enum-told c = search needs
@@ -46,21 +47,25 @@ row-in-requires c κs = search needs
 
 span-of-requires : tie.Need-span-of-requires
 span-of-requires c κs =
+    let load = c .before .before .before .before .before .before .before .before .before .before .before .before .before .load in
     let st = c .before .before .before .before .before .before .before .before .before .before .before .before .before .before .before .before .before .before .before .before .before .before .before .before .before .before in
     let q = st .pre .2 in
-    let y = c .before .before .before .before .before .before .before .before .before .before .before .before .before .load .ensures .lists (c .before .before .before .enum-told .given .1) in
+    let y = load .ensures .lists (c .before .before .before .enum-told .given .1) in
     loaded-spans (st .args .h) (st .args .b .now) _ _ _ _ y (st .args .i) (st .pre .1) (head-stands (q .0) (st .args .b .now) (st .args .h) (q .1) .few)
 
 put-shape-requires : tie.Need-put-shape-requires
 put-shape-requires c κs =
+    let load = c .before .before .before .before .before .before .before .before .before .before .before .before .before .before .before .before .before .before .before .before .load in
+    let enum-told′ = c .before .before .before .before .before .before .before .before .before .before .enum-told in
+    let span-of = c .before .before .before .before .before .before .span-of in
     let st = c .before .before .before .before .before .before .before .before .before .before .before .before .before .before .before .before .before .before .before .before .before .before .before .before .before .before .before .before .before .before .before .before .before in
     let q = st .pre .2 in
-    let y = c .before .before .before .before .before .before .before .before .before .before .before .before .before .before .before .before .before .before .before .before .load .ensures .lists (c .before .before .before .before .before .before .before .before .before .before .enum-told .given .1) in
+    let y = load .ensures .lists (enum-told′ .given .1) in
     let r = loaded-spans (st .args .h) (st .args .b .now) _ _ _ _ y (st .args .i) (st .pre .1) (head-stands (q .0) (st .args .b .now) (st .args .h) (q .1) .few) in
     let v = loaded-vertices (st .args .h) (st .args .b .now) _ _ _ _ y in
     let p = span-parts _ _ (st .args .i) (r .0) (r .1) in
     let n = span-vertices _ _ (st .args .i) (r .0) (r .1) in
-    rw (c .before .before .before .before .before .before .span-of .ensures) (p .0, p .1, n .0, rw (← v .0) (n .1), v .1)
+    rw (span-of .ensures) (p .0, p .1, n .0, rw (← v .0) (n .1), v .1)
 
 same-length-5 : tie.Need-same-length-5
 same-length-5 c = search needs
@@ -85,9 +90,14 @@ same-length-11 c = search needs
 
 returns-2 : tie.Need-returns-2
 returns-2 c =
+    let load = c .before .before .before .before .before .before .before .before .before .before .before .before .before .before .before .before .before .before .before .before .before .before .before .before .before .before .before .load in
+    let enum-told′ = c .before .before .before .before .before .before .before .before .before .before .before .before .before .before .before .before .before .enum-told in
+    let row-in = c .before .before .before .before .before .before .before .before .before .before .before .before .before .before .before .before .row-in in
+    let span-of = c .before .before .before .before .before .before .before .before .before .before .before .before .before .span-of in
+    let put-shape = c .before .before .before .before .before .before .put-shape in
     let st = c .before .before .before .before .before .before .before .before .before .before .before .before .before .before .before .before .before .before .before .before .before .before .before .before .before .before .before .before .before .before .before .before .before .before .before .before .before .before .before .before in
-    let y = c .before .before .before .before .before .before .before .before .before .before .before .before .before .before .before .before .before .before .before .before .before .before .before .before .before .before .before .load .ensures .lists (c .before .before .before .before .before .before .before .before .before .before .before .before .before .before .before .before .before .enum-told .given .1) in
-    rw (loaded-shape (st .args .h) (st .args .b .now) _ _ _ _ y (st .args .k) (st .args .i) (c .before .before .before .before .before .before .before .before .before .before .before .before .before .before .before .before .row-in .result) (c .before .before .before .before .before .before .before .before .before .before .before .before .before .span-of .result) _ (st .pre .1) (c .before .before .before .before .before .before .before .before .before .before .before .before .before .before .before .before .row-in .ensures) (c .before .before .before .before .before .before .before .before .before .before .before .before .before .span-of .ensures)) (c .before .before .before .before .before .before .put-shape .ensures)
+    let y = load .ensures .lists (enum-told′ .given .1) in
+    rw (loaded-shape (st .args .h) (st .args .b .now) _ _ _ _ y (st .args .k) (st .args .i) (row-in .result) (span-of .result) _ (st .pre .1) (row-in .ensures) (span-of .ensures)) (put-shape .ensures)
 
 pub contents-shape-spec : {M : Type 1} → statement M
 contents-shape-spec =

@@ -93,10 +93,15 @@ same-length-3 c = search needs
 
 returns-4 : tie.Need-returns-4
 returns-4 c =
+    let if1 = c .before .before .before .before .before .before .before .before .before .before .before .before .before .before .before .before .before .if1 in
+    let if2 = c .before .before .before .before .before .before .before .before .before .before .before .before .before .before .before .before .if2 in
+    let if3 = c .before .before .before .before .before .before .before .before .before .before .before .before .before .before .before .if3 in
+    let copy-lens = c .before .before .before .before .before .before .before .before .before .before .before .before .copy-lens in
+    let copy-patterns = c .before .before .before .before .before .before .before .copy-patterns in
     let st = c .before .before .before .before .before .before .before .before .before .before .before .before .before .before .before .before .before .before .before .before .before .before .before .before in
     let a = st .args in
-    put-all (a .r) (a .p) (a .page-lens .now) (a .page-xs .now) (a .page-ys .now) (a .lens .now) (a .xs .now) (a .ys .now) (st .pre .1) (st .pre .3) (st .pre .4) (c .before .before .before .before .before .before .before .before .before .before .before .before .before .before .before .before .before .if1 .left) (c .before .before .before .before .before .before .before .before .before .before .before .before .before .before .before .before .if2 .left) _ _ _
-    (c .before .before .before .before .before .before .before .before .before .before .before .before .before .before .before .if3 .left) (c .before .before .before .before .before .before .before .before .before .before .before .before .copy-lens .ensures) (c .before .before .before .before .before .before .before .copy-patterns .ensures) (c .before .before .copy-patterns2 .ensures)
+    put-all (a .r) (a .p) (a .page-lens .now) (a .page-xs .now) (a .page-ys .now) (a .lens .now) (a .xs .now) (a .ys .now) (st .pre .1) (st .pre .3) (st .pre .4) (if1 .left) (if2 .left) _ _ _
+    (if3 .left) (copy-lens .ensures) (copy-patterns .ensures) (c .before .before .copy-patterns2 .ensures)
 
 pub put-shape-spec : {M : Type 1} → statement M
 put-shape-spec =

@@ -122,8 +122,9 @@ same-length-7 c = search needs
 
 returns : tie.Need-returns
 returns c =
+    let contents-shape = c .before .before .before .before .before .before .before .before .before .before .before .before .before .before .contents-shape in
     let a = c .before .before .before .before .before .before .before .before .before .before .before .before .before .before .before .before .before .before .before .before .before .before .before .before .before .before .before .before .before .before .before .before .args in
-    rw (← part-of (a .s .now) (a .t .page .body) (a .t .page .len)) (c .before .before .before .before .before .before .before .before .before .before .before .before .before .before .contents-shape .ensures)
+    rw (← part-of (a .s .now) (a .t .page .body) (a .t .page .len)) (contents-shape .ensures)
 
 pub seat-shape-spec : {M : Type 1} → statement M
 seat-shape-spec =

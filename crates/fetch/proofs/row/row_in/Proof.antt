@@ -35,7 +35,9 @@ shared-slice-read-kind c =
     omega (arith, r .0, r .1)
 
 returns : tie.Need-returns
-returns c = let st = c .before .before .before .before .before in row-is (st .args .b .now) (st .args .h) (st .args .i) _ _ (st .pre .1) (c .before .before .u32-at .ensures .0) refl
+returns c =
+    let st = c .before .before .before .before .before in
+    row-is (st .args .b .now) (st .args .h) (st .args .i) _ _ (st .pre .1) (c .before .before .u32-at .ensures .0) refl
 
 pub row-in-spec : {M : Type 1} → statement M
 row-in-spec =

@@ -34,7 +34,9 @@ cast-place : tie.Need-cast-place Inv-loop μ-loop
 cast-place c = omega (arith, c .shared-slice-known3 .given (c .before .before .loop .i))
 
 start-requires : tie.Need-start-requires Inv-loop μ-loop
-start-requires c κs = (c .before .before .before .before .before .before .before .pre .0, c .before .before .before .before .before .before .before .pre .1, c .before .before .loop .inv .onward)
+start-requires c κs =
+    let pre = c .before .before .before .before .before .before .before .pre in
+    (pre .0, pre .1, c .before .before .loop .inv .onward)
 
 seek-requires : tie.Need-seek-requires Inv-loop μ-loop
 seek-requires c κs = (c .start .ensures .0, c .start .ensures .1)
@@ -54,10 +56,16 @@ mul-registers : tie.Need-mul-registers Inv-loop μ-loop
 mul-registers c = omega (arith, small (c .before .before .before .before .before .before .before))
 
 slice-write-registers : tie.Need-slice-write-registers Inv-loop μ-loop
-slice-write-registers c = omega (arith, c .before .before .before .before .before .before .before .loop-test .taken, c .before .before .before .before .before .before .before .before .loop .inv .registers-fit, c .before .before .before .before .before .before .before .before .loop .inv .registers-long)
+slice-write-registers c =
+    let loop = c .before .before .before .before .before .before .before .before .loop in
+    let loop-test = c .before .before .before .before .before .before .before .loop-test in
+    omega (arith, loop-test .taken, loop .inv .registers-fit, loop .inv .registers-long)
 
 slice-write-types : tie.Need-slice-write-types Inv-loop μ-loop
-slice-write-types c = omega (arith, c .before .before .before .before .before .before .before .loop-test .taken, c .before .before .before .before .before .before .before .before .loop .inv .types-fit, c .before .before .before .before .before .before .before .before .loop .inv .types-long)
+slice-write-types c =
+    let loop = c .before .before .before .before .before .before .before .before .loop in
+    let loop-test = c .before .before .before .before .before .before .before .loop-test in
+    omega (arith, loop-test .taken, loop .inv .types-fit, loop .inv .types-long)
 
 add-i : tie.Need-add-i Inv-loop μ-loop
 add-i c = omega (arith, small (c .before .before .before .before .before .before .before .before))
@@ -67,8 +75,12 @@ loop-less c = omega (arith, c .before .before .before .before .before .before .b
 
 loop-again : tie.Need-loop-again Inv-loop μ-loop
 loop-again c =
+    let args = c .before .before .before .before .before .before .before .before .before .before .before .before .before .before .args in
+    let loop = c .before .before .before .before .before .before .before .before .before .loop in
+    let loop-test = c .before .before .before .before .before .before .before .before .loop-test in
+    let seek = c .before .before .before .before .before .seek in
     let t = c .before .before .before .t .given in
-    listing-more (c .before .before .before .before .before .before .before .before .before .before .before .before .before .before .args .s .now) (c .before .before .before .before .before .before .before .before .before .before .before .before .before .before .args .places .now) (c .before .before .before .before .before .before .before .before .before .before .before .before .before .before .args .registers .now) (c .before .before .before .before .before .before .before .before .before .before .before .before .before .before .args .types .now) (c .before .before .before .before .before .before .before .before .before .loop .c) (c .before .before .before .before .before .before .before .before .before .loop .i) (c .before .before .before .before .before .before .before .before .before .loop .registers) (c .before .before .before .before .before .before .before .before .before .loop .types) (c .before .before .before .before .before .before .before .before .before .loop .inv) (c .before .before .before .before .before .before .before .before .loop-test .taken) _ (c .before .before .before .before .before .seek .ensures) (t .0 .0) _ (t .1) (c .before .row-at .ensures)
+    listing-more (args .s .now) (args .places .now) (args .registers .now) (args .types .now) (loop .c) (loop .i) (loop .registers) (loop .types) (loop .inv) (loop-test .taken) _ (seek .ensures) (t .0 .0) _ (t .1) (c .before .row-at .ensures)
 
 enum-known-w : tie.Need-enum-known-w Inv-loop μ-loop
 enum-known-w c = search needs
@@ -81,8 +93,11 @@ same-length-2 c = c .before .before .before .before .before .before .before .loo
 
 returns : tie.Need-returns Inv-loop μ-loop
 returns c =
+    let args = c .before .before .before .before .before .before .before .before .before .before .before .before .args in
+    let loop = c .before .before .before .before .before .before .before .loop in
+    let loop-test = c .before .before .before .before .before .before .loop-test in
     let w = c .before .w .given in
-    listing-never (c .before .before .before .before .before .before .before .before .before .before .before .before .args .s .now) (c .before .before .before .before .before .before .before .before .before .before .before .before .args .places .now) (c .before .before .before .before .before .before .before .before .before .before .before .before .args .registers .now) (c .before .before .before .before .before .before .before .before .before .before .before .before .args .types .now) (c .before .before .before .before .before .before .before .loop .c) (c .before .before .before .before .before .before .before .loop .i) (c .before .before .before .before .before .before .before .loop .registers) (c .before .before .before .before .before .before .before .loop .types) (c .before .before .before .before .before .before .before .loop .inv) (c .before .before .before .before .before .before .loop-test .taken) _ (c .before .before .before .seek .ensures) (w .0 .0) (w .1)
+    listing-never (args .s .now) (args .places .now) (args .registers .now) (args .types .now) (loop .c) (loop .i) (loop .registers) (loop .types) (loop .inv) (loop-test .taken) _ (c .before .before .before .seek .ensures) (w .0 .0) (w .1)
 
 same-length-3 : tie.Need-same-length-3 Inv-loop μ-loop
 same-length-3 c = c .before .loop .inv .registers-long
@@ -91,7 +106,9 @@ same-length-4 : tie.Need-same-length-4 Inv-loop μ-loop
 same-length-4 c = c .before .loop .inv .types-long
 
 returns-2 : tie.Need-returns-2 Inv-loop μ-loop
-returns-2 c = listing-done (c .before .before .before .before .before .before .args .s .now) (c .before .before .before .before .before .before .args .places .now) (c .before .before .before .before .before .before .args .registers .now) (c .before .before .before .before .before .before .args .types .now) (c .before .loop .c) (c .before .loop .i) (c .before .loop .registers) (c .before .loop .types) (c .before .loop .inv) (c .loop-test .left)
+returns-2 c =
+    let args = c .before .before .before .before .before .before .args in
+    listing-done (args .s .now) (args .places .now) (args .registers .now) (args .types .now) (c .before .loop .c) (c .before .loop .i) (c .before .loop .registers) (c .before .loop .types) (c .before .loop .inv) (c .loop-test .left)
 
 pub put-rows-spec : {M : Type 1} → statement M
 put-rows-spec =

@@ -31,33 +31,46 @@ glance-requires : tie.Need-glance-requires Inv-loop μ-loop
 glance-requires c κs = (c .before .before .loop .inv .0 .ahead .within .shapes, ahead-go _ _ _ (c .before .before .loop .inv .0 .ahead) (sym (c .before .at-end .ensures) ∙ not-true _ (c .if1 .taken)))
 
 page-at-requires : tie.Need-page-at-requires Inv-loop μ-loop
-page-at-requires c κs = (c .before .before .before .before .before .loop .inv .0 .ahead .within .shapes, ahead-go _ _ _ (c .before .before .before .before .before .loop .inv .0 .ahead) (sym (c .before .before .before .before .at-end .ensures) ∙ not-true _ (c .before .before .before .if1 .taken)))
+page-at-requires c κs =
+    let loop = c .before .before .before .before .before .loop in
+    let at-end = c .before .before .before .before .at-end in
+    (loop .inv .0 .ahead .within .shapes, ahead-go _ _ _ (loop .inv .0 .ahead) (sym (at-end .ensures) ∙ not-true _ (c .before .before .before .if1 .taken)))
 
 sub-t9 : tie.Need-sub-t9 Inv-loop μ-loop
 sub-t9 c = omega (arith, c .before .before .before .before .before .before .before .loop .inv .1)
 
 returns : tie.Need-returns Inv-loop μ-loop
 returns c =
-    let g = c .before .before .before .before .glance .ensures in
+    let args = c .before .before .before .before .before .before .before .before .before .args in
+    let loop = c .before .before .before .before .before .before .before .loop in
+    let glance = c .before .before .before .before .glance in
+    let g = glance .ensures in
     let e = c .before .page-at .ensures in
     let same = page-inj (ok-inj (sym (g .1) ∙ e)) in
-    onward-here (c .before .before .before .before .before .before .before .before .before .args .s .now) (c .before .before .before .before .before .before .before .before .before .args .place) (c .before .before .before .before .before .before .before .loop .c) (c .before .before .before .before .before .before .before .loop .inv .0) (c .before .before .before .before .before .before .before .loop .inv .1) _ e (rw (← ap (λ (x : PageAt). x .next .shapes) same, ← ap (λ (x : Glance). x .next .shapes) (g .2)) (c .before .before .if2 .taken))
+    onward-here (args .s .now) (args .place) (loop .c) (loop .inv .0) (loop .inv .1) _ e (rw (← ap (λ (x : PageAt). x .next .shapes) same, ← ap (λ (x : Glance). x .next .shapes) (g .2)) (c .before .before .if2 .taken))
 
 loop-less : tie.Need-loop-less Inv-loop μ-loop
 loop-less c =
+    let args = c .before .before .before .before .before .before .before .before .args in
+    let loop = c .before .before .before .before .before .before .loop in
     let g = c .before .before .before .glance .ensures in
-    rw (ap (λ (x : Glance). x .next) (g .2)) (onward-fewer (c .before .before .before .before .before .before .before .before .args .s .now) (c .before .before .before .before .before .before .before .before .args .place) (c .before .before .before .before .before .before .loop .c) (c .before .before .before .before .before .before .loop .inv .0) (c .before .before .before .before .before .before .loop .inv .1) (g .0) (g .1))
+    rw (ap (λ (x : Glance). x .next) (g .2)) (onward-fewer (args .s .now) (args .place) (loop .c) (loop .inv .0) (loop .inv .1) (g .0) (g .1))
 
 loop-again : tie.Need-loop-again Inv-loop μ-loop
 loop-again c =
+    let args = c .before .before .before .before .before .before .before .before .args in
+    let loop = c .before .before .before .before .before .before .loop in
     let g = c .before .before .before .glance .ensures in
-    (rw (ap (λ (x : Glance). x .next) (g .2)) (onward-more (c .before .before .before .before .before .before .before .before .args .s .now) (c .before .before .before .before .before .before .before .before .args .place) (c .before .before .before .before .before .before .loop .c) (c .before .before .before .before .before .before .loop .inv .0) (c .before .before .before .before .before .before .loop .inv .1) (g .0) (g .1)), c .before .if2 .left)
+    (rw (ap (λ (x : Glance). x .next) (g .2)) (onward-more (args .s .now) (args .place) (loop .c) (loop .inv .0) (loop .inv .1) (g .0) (g .1)), c .before .if2 .left)
 
 because-requires : tie.Need-because-requires Inv-loop μ-loop
 because-requires c κs = search needs
 
 returns-2 : tie.Need-returns-2 Inv-loop μ-loop
-returns-2 c = rw (c .because .ensures) (onward-end (c .before .before .before .before .before .args .s .now) (c .before .before .before .before .before .args .place) (c .before .before .before .loop .c) (c .before .before .before .loop .inv .0) (c .before .before .before .loop .inv .1) (ahead-stop _ _ _ (c .before .before .before .loop .inv .0 .ahead) (sym (c .before .before .at-end .ensures) ∙ not-false _ (c .before .if1 .left))))
+returns-2 c =
+    let args = c .before .before .before .before .before .args in
+    let loop = c .before .before .before .loop in
+    rw (c .because .ensures) (onward-end (args .s .now) (args .place) (loop .c) (loop .inv .0) (loop .inv .1) (ahead-stop _ _ _ (loop .inv .0 .ahead) (sym (c .before .before .at-end .ensures) ∙ not-false _ (c .before .if1 .left))))
 
 pub seek-spec : {M : Type 1} → statement M
 seek-spec =

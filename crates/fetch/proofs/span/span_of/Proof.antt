@@ -13,18 +13,26 @@ use Rattle.fetch.proofs.span.span_of.Tie as tie
 
 -- the parts before the shape, and with its own, are there
 before-it : (c : tie.After-total) → c .total .result ≤ length (c .before .before .before .before .args .lens .now)
-before-it c = omega (arith, c .total .ensures, total-take-le (c .before .before .before .before .args .i) (c .before .before .before .before .args .counts .now), c .before .before .before .before .pre .1)
+before-it c =
+    let args = c .before .before .before .before .args in
+    let pre = c .before .before .before .before .pre in
+    omega (arith, c .total .ensures, total-take-le (args .i) (args .counts .now), pre .1)
 
 with-it : (c : tie.After-total) → c .total .result + getD (c .before .before .before .before .args .counts .now) (c .before .before .before .before .args .i) 0 ≤ length (c .before .before .before .before .args .lens .now)
 with-it c =
+    let pre = c .before .before .before .before .pre in
     let a = c .before .before .before .before .args in
-    omega (arith, c .total .ensures, total-suc (a .counts .now) (a .i) (c .before .before .before .before .pre .0), total-take-le (suc (a .i)) (a .counts .now), c .before .before .before .before .pre .1)
+    omega (arith, c .total .ensures, total-suc (a .counts .now) (a .i) (pre .0), total-take-le (suc (a .i)) (a .counts .now), pre .1)
 
 slice-aggregate-total : tie.Need-slice-aggregate-total
-slice-aggregate-total c = let a = c .before .before .before .args in sym (length-take-le (a .i) (a .counts .now) (omega (arith, c .before .before .before .pre .0)))
+slice-aggregate-total c =
+    let a = c .before .before .before .args in
+    sym (length-take-le (a .i) (a .counts .now) (omega (arith, c .before .before .before .pre .0)))
 
 total-requires : tie.Need-total-requires
-total-requires c κs = let a = c .before .before .before .args in omega (arith, total-take-le (a .i) (a .counts .now), c .before .before .before .pre .1, c .before .before .before .pre .2)
+total-requires c κs =
+    let a = c .before .before .before .args in
+    omega (arith, total-take-le (a .i) (a .counts .now), c .before .before .before .pre .1, c .before .before .before .pre .2)
 
 mul-part-end : tie.Need-mul-part-end
 mul-part-end c = search needs
@@ -42,13 +50,23 @@ slice-aggregate-total-2 : tie.Need-slice-aggregate-total-2
 slice-aggregate-total-2 c = sym (length-take-le (c .before .before .total .result) (c .before .before .before .before .before .before .args .lens .now) (before-it (c .before .before)))
 
 total-requires-2 : tie.Need-total-requires-2
-total-requires-2 c κs = omega (arith, total-take-le (c .before .before .total .result) (c .before .before .before .before .before .before .args .lens .now), c .before .before .before .before .before .before .pre .3)
+total-requires-2 c κs =
+    let args = c .before .before .before .before .before .before .args in
+    let pre = c .before .before .before .before .before .before .pre in
+    omega (arith, total-take-le (c .before .before .total .result) (args .lens .now), pre .3)
 
 slice-aggregate-total-3 : tie.Need-slice-aggregate-total-3
-slice-aggregate-total-3 c = sym (length-take-le (c .before .before .before .before .total .result + getD (c .before .before .before .before .before .before .before .before .args .counts .now) (c .before .before .before .before .before .before .before .before .args .i) 0) (c .before .before .before .before .before .before .before .before .args .lens .now) (with-it (c .before .before .before .before)))
+slice-aggregate-total-3 c =
+    let args = c .before .before .before .before .before .before .before .before .args in
+    let total′ = c .before .before .before .before .total in
+    sym (length-take-le (total′ .result + getD (args .counts .now) (args .i) 0) (args .lens .now) (with-it (c .before .before .before .before)))
 
 total-requires-3 : tie.Need-total-requires-3
-total-requires-3 c κs = omega (arith, total-take-le (c .before .before .before .before .total .result + getD (c .before .before .before .before .before .before .before .before .args .counts .now) (c .before .before .before .before .before .before .before .before .args .i) 0) (c .before .before .before .before .before .before .before .before .args .lens .now), c .before .before .before .before .before .before .before .before .pre .3)
+total-requires-3 c κs =
+    let args = c .before .before .before .before .before .before .before .before .args in
+    let pre = c .before .before .before .before .before .before .before .before .pre in
+    let total′ = c .before .before .before .before .total in
+    omega (arith, total-take-le (total′ .result + getD (args .counts .now) (args .i) 0) (args .lens .now), pre .3)
 
 returns : tie.Need-returns
 returns c =

@@ -37,9 +37,12 @@ enum-known-w c = search needs
 
 returns : tie.Need-returns
 returns c =
+    let first = c .before .before .before .before .before .before .before .before .before .before .before .before .first in
+    let c′ = c .before .before .before .before .before .before .before .before .before .before .c in
+    let pages-hold = c .before .before .before .before .pages-hold in
     let q = c .before .before .before .before .before .before .before .before .before .before .before .before .before .before .pre in
-    let e = first-said _ _ (c .before .before .before .before .before .before .before .before .before .before .before .before .first .ensures) _ (c .before .before .before .before .before .before .before .before .before .before .c .given .1) in
-    c .before .before .before .before .pages-hold .ensures ∙ ap passed (sym (shapes-after _ (q .0) (q .1) _ e))
+    let e = first-said _ _ (first .ensures) _ (c′ .given .1) in
+    pages-hold .ensures ∙ ap passed (sym (shapes-after _ (q .0) (q .1) _ e))
 
 returns-2 : tie.Need-returns-2
 returns-2 c =

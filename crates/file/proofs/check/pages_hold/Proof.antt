@@ -37,42 +37,73 @@ enum-known-w : tie.Need-enum-known-w Inv-loop μ-loop
 enum-known-w c = search needs
 
 cast-on-page : tie.Need-cast-on-page Inv-loop μ-loop
-cast-on-page c = record { fits = omega (arith, c .before .before .before .before .before .before .before .before .before .before .before .before .before .before .before .before .before .before .before .before .loop .inv .0 .ahead .1 .within .pages) }
+cast-on-page c =
+    let loop = c .before .before .before .before .before .before .before .before .before .before .before .before .before .before .before .before .before .before .before .before .loop in
+    record { fits = omega (arith, loop .inv .0 .ahead .1 .within .pages) }
 
 on-page-requires : tie.Need-on-page-requires Inv-loop μ-loop
 on-page-requires c κs = search needs
 
 same-length : tie.Need-same-length Inv-loop μ-loop
-same-length c = c .before .before .before .before .before .before .before .before .before .before .before .before .counts .given ∙ c .before .before .before .before .before .before .before .before .before .before .before .before .before .before .before .before .before .before .before .before .before .loop .inv .1 ∙ sym (c .before .before .before .before .before .before .before .before .before .before .before .before .before .before .before .before .before .before .before .before .before .before .before .before .before .before .before .pre .1)
+same-length c =
+    let pre = c .before .before .before .before .before .before .before .before .before .before .before .before .before .before .before .before .before .before .before .before .before .before .before .before .before .before .before .pre in
+    let loop = c .before .before .before .before .before .before .before .before .before .before .before .before .before .before .before .before .before .before .before .before .before .loop in
+    let counts = c .before .before .before .before .before .before .before .before .before .before .before .before .counts in
+    counts .given ∙ loop .inv .1 ∙ sym (pre .1)
 
 same-length-2 : tie.Need-same-length-2 Inv-loop μ-loop
-same-length-2 c = c .before .before .before .before .before .before .before .before .before .before .lens .given ∙ c .before .before .before .before .before .before .before .before .before .before .before .before .before .before .before .before .before .before .before .before .before .loop .inv .2 ∙ sym (c .before .before .before .before .before .before .before .before .before .before .before .before .before .before .before .before .before .before .before .before .before .before .before .before .before .before .before .pre .2)
+same-length-2 c =
+    let pre = c .before .before .before .before .before .before .before .before .before .before .before .before .before .before .before .before .before .before .before .before .before .before .before .before .before .before .before .pre in
+    let loop = c .before .before .before .before .before .before .before .before .before .before .before .before .before .before .before .before .before .before .before .before .before .loop in
+    let lens = c .before .before .before .before .before .before .before .before .before .before .lens in
+    lens .given ∙ loop .inv .2 ∙ sym (pre .2)
 
 same-length-3 : tie.Need-same-length-3 Inv-loop μ-loop
-same-length-3 c = c .before .before .before .before .before .before .before .before .xs .given ∙ c .before .before .before .before .before .before .before .before .before .before .before .before .before .before .before .before .before .before .before .before .before .loop .inv .3 ∙ sym (c .before .before .before .before .before .before .before .before .before .before .before .before .before .before .before .before .before .before .before .before .before .before .before .before .before .before .before .pre .3)
+same-length-3 c =
+    let pre = c .before .before .before .before .before .before .before .before .before .before .before .before .before .before .before .before .before .before .before .before .before .before .before .before .before .before .before .pre in
+    let loop = c .before .before .before .before .before .before .before .before .before .before .before .before .before .before .before .before .before .before .before .before .before .loop in
+    let xs = c .before .before .before .before .before .before .before .before .xs in
+    xs .given ∙ loop .inv .3 ∙ sym (pre .3)
 
 same-length-4 : tie.Need-same-length-4 Inv-loop μ-loop
-same-length-4 c = c .before .before .before .before .before .before .ys .given ∙ c .before .before .before .before .before .before .before .before .before .before .before .before .before .before .before .before .before .before .before .before .before .loop .inv .4 ∙ sym (c .before .before .before .before .before .before .before .before .before .before .before .before .before .before .before .before .before .before .before .before .before .before .before .before .before .before .before .pre .4)
+same-length-4 c =
+    let pre = c .before .before .before .before .before .before .before .before .before .before .before .before .before .before .before .before .before .before .before .before .before .before .before .before .before .before .before .pre in
+    let loop = c .before .before .before .before .before .before .before .before .before .before .before .before .before .before .before .before .before .before .before .before .before .loop in
+    let ys = c .before .before .before .before .before .before .ys in
+    ys .given ∙ loop .inv .4 ∙ sym (pre .4)
 
 returns : tie.Need-returns Inv-loop μ-loop
 returns c =
+    let loop = c .before .before .before .before .before .before .before .before .before .before .before .before .before .before .before .before .before .before .before .before .before .loop in
+    let page-at = c .before .before .before .before .before .before .before .before .before .before .before .before .before .before .before .before .before .before .page-at in
+    let page-holds = c .before .before .before .before .before .before .before .before .before .before .before .before .before .page-holds in
     let w = c .before .before .before .w .given in
-    rw (c .on-page .ensures) (going-refused _ _ _ (c .before .before .before .before .before .before .before .before .before .before .before .before .before .before .before .before .before .before .before .before .before .loop .inv .0) _ (c .before .before .before .before .before .before .before .before .before .before .before .before .before .before .before .before .before .before .page-at .ensures) (w .0 .0) (rw (w .1) at (c .before .before .before .before .before .before .before .before .before .before .before .before .before .page-holds .ensures)))
+    rw (c .on-page .ensures) (going-refused _ _ _ (loop .inv .0) _ (page-at .ensures) (w .0 .0) (rw (w .1) at (page-holds .ensures)))
 
 enum-told : tie.Need-enum-told Inv-loop μ-loop
 enum-told c = search needs
 
 loop-less : tie.Need-loop-less Inv-loop μ-loop
-loop-less c = going-fewer _ _ _ (c .before .before .before .before .before .before .before .before .before .before .before .before .before .before .before .before .before .before .before .loop .inv .0) _ (c .before .before .before .before .before .before .before .before .before .before .before .before .before .before .before .before .page-at .ensures)
+loop-less c =
+    let loop = c .before .before .before .before .before .before .before .before .before .before .before .before .before .before .before .before .before .before .before .loop in
+    let page-at = c .before .before .before .before .before .before .before .before .before .before .before .before .before .before .before .before .page-at in
+    going-fewer _ _ _ (loop .inv .0) _ (page-at .ensures)
 
 loop-again : tie.Need-loop-again Inv-loop μ-loop
 loop-again c =
-    let i = c .before .before .before .before .before .before .before .before .before .before .before .before .before .before .before .before .before .before .before .loop .inv in (
-      going-on _ _ _ (i .0) _ (c .before .before .before .before .before .before .before .before .before .before .before .before .before .before .before .before .page-at .ensures) (rw (c .before .enum-told .given .1) at (c .before .before .before .before .before .before .before .before .before .before .before .page-holds .ensures)),
-      c .before .before .before .before .before .before .before .before .before .before .counts .given ∙ i .1,
-      c .before .before .before .before .before .before .before .before .lens .given ∙ i .2,
-      c .before .before .before .before .before .before .xs .given ∙ i .3,
-      c .before .before .before .before .ys .given ∙ i .4,
+    let loop = c .before .before .before .before .before .before .before .before .before .before .before .before .before .before .before .before .before .before .before .loop in
+    let page-at = c .before .before .before .before .before .before .before .before .before .before .before .before .before .before .before .before .page-at in
+    let page-holds = c .before .before .before .before .before .before .before .before .before .before .before .page-holds in
+    let counts = c .before .before .before .before .before .before .before .before .before .before .counts in
+    let lens = c .before .before .before .before .before .before .before .before .lens in
+    let xs = c .before .before .before .before .before .before .xs in
+    let ys = c .before .before .before .before .ys in
+    let i = loop .inv in (
+      going-on _ _ _ (i .0) _ (page-at .ensures) (rw (c .before .enum-told .given .1) at (page-holds .ensures)),
+      counts .given ∙ i .1,
+      lens .given ∙ i .2,
+      xs .given ∙ i .3,
+      ys .given ∙ i .4,
     )
 
 same-length-5 : tie.Need-same-length-5 Inv-loop μ-loop

@@ -111,8 +111,10 @@ same-length-4 c = search needs
 
 returns : tie.Need-returns
 returns c =
-    let p = c .before .before .before .before .before .before .before .before .before .before .before .before .before .before .before .before .before .before .before .before .args .p in
-    rw (← part-of (c .before .before .before .before .before .before .before .before .before .before .before .before .before .before .before .before .before .before .before .before .args .s .now) (p .body) (p .len)) (c .before .before .before .before .before .before .before .before .load .ensures .verdict)
+    let args = c .before .before .before .before .before .before .before .before .before .before .before .before .before .before .before .before .before .before .before .before .args in
+    let load = c .before .before .before .before .before .before .before .before .load in
+    let p = args .p in
+    rw (← part-of (args .s .now) (p .body) (p .len)) (load .ensures .verdict)
 
 pub page-holds-spec : {M : Type 1} → statement M
 page-holds-spec =

@@ -18,10 +18,14 @@ returns-4 : tie.Need-returns-4
 returns-4 c = let a = c .before .before .before .before .args in sym (counts-parts (a .g) (a .v) (a .p) (omega arith))
 
 returns-5 : tie.Need-returns-5
-returns-5 c = let a = c .before .before .before .before .before .args in sym (counts-none (a .g) (a .v) (a .p) (omega arith) (omega arith) (omega arith) (omega arith) (omega arith))
+returns-5 c =
+    let a = c .before .before .before .before .before .args in
+    sym (counts-none (a .g) (a .v) (a .p) (omega arith) (omega arith) (omega arith) (omega arith) (omega arith))
 
 returns-6 : tie.Need-returns-6
-returns-6 c = let a = c .before .before .before .before .before .args in sym (counts-some (a .g) (a .v) (a .p) (omega arith) (omega arith) (omega arith) (omega arith) (omega arith))
+returns-6 c =
+    let a = c .before .before .before .before .before .args in
+    sym (counts-some (a .g) (a .v) (a .p) (omega arith) (omega arith) (omega arith) (omega arith) (omega arith))
 
 pub counts-ok-spec : {M : Type 1} → statement M
 counts-ok-spec = tie.close (tie.spec returns returns-2 returns-3 returns-4 returns-5 returns-6)

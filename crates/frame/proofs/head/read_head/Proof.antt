@@ -37,7 +37,9 @@ layout-of-requires : tie.Need-layout-of-requires
 layout-of-requires c κs = few c
 
 box-at-requires : tie.Need-box-at-requires
-box-at-requires c κs = (omega (arith, reaches (c .before .before .before .before .before)), head-finite _ _ _ (says (c .before .before .before .before .before)))
+box-at-requires c κs =
+    let before = c .before .before .before .before .before in
+    (omega (arith, reaches (before)), head-finite _ _ _ (says (before)))
 
 u32-at-requires : tie.Need-u32-at-requires
 u32-at-requires c κs = omega (arith, room (c .before))

@@ -69,13 +69,17 @@ mul-whole-2 : tie.Need-mul-whole-2 Inv-loop μ-loop
 mul-whole-2 c = search needs
 
 shared-slice-read-whole-4 : tie.Need-shared-slice-read-whole-4 Inv-loop μ-loop
-shared-slice-read-whole-4 c = let s = c .before .before .before .before .before .before .before .before .before .before .before .before in omega (arith, s .pre .0)
+shared-slice-read-whole-4 c =
+    let s = c .before .before .before .before .before .before .before .before .before .before .before .before in
+    omega (arith, s .pre .0)
 
 whole-requires-4 : tie.Need-whole-requires-4 Inv-loop μ-loop
 whole-requires-4 c κs = y-on (c .before .before .before .before .before .before .before .before .before .before .before .before) (c .before .before .before .before .loop .i) (omega arith)
 
 edge-requires : tie.Need-edge-requires Inv-loop μ-loop
-edge-requires c κs = let w = c .before .before .before .before .before .loop .inv in (w .near-x, w .near-y, vertex _ _ (c .before .before .whole3 .ensures) .1, vertex _ _ (c .whole4 .ensures) .1)
+edge-requires c κs =
+    let w = c .before .before .before .before .before .loop .inv in
+    (w .near-x, w .near-y, vertex _ _ (c .before .before .whole3 .ensures) .1, vertex _ _ (c .whole4 .ensures) .1)
 
 -- with the edge, the sum is that of one vertex more, and it fits
 module _ (c : tie.After-edge Inv-loop μ-loop) where
@@ -135,7 +139,10 @@ loop-again c =
     (sym (back-64 ((i c + 1) * 2 ^ 49) _ _ (summed c) (more c .fits) (few c))) (more c)
 
 returns-2 : tie.Need-returns-2 Inv-loop μ-loop
-returns-2 c = let s = c .before .before .before .before .before .before .before .before .before in let l = c .before .loop in turning-done (s .args .xs .now) (s .args .ys .now) (l .i) _ _ _ (omega arith) (l .inv)
+returns-2 c =
+    let s = c .before .before .before .before .before .before .before .before .before in
+    let l = c .before .loop in
+    turning-done (s .args .xs .now) (s .args .ys .now) (l .i) _ _ _ (omega arith) (l .inv)
 
 pub turn-spec : {M : Type 1} → statement M
 turn-spec =

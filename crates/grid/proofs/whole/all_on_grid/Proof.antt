@@ -36,7 +36,9 @@ loop-less : tie.Need-loop-less Inv-loop μ-loop
 loop-less c = search needs
 
 loop-again : tie.Need-loop-again Inv-loop μ-loop
-loop-again c = let l = c .before .before .before .loop in walk-more (c .before .before .before .before .before .args .vs .now) (l .i) (l .off) (c .off-grid .result) (omega (arith, c .before .before .loop-test .taken)) (c .off-grid .ensures) ∙ l .inv
+loop-again c =
+    let l = c .before .before .before .loop in
+    walk-more (c .before .before .before .before .before .args .vs .now) (l .i) (l .off) (c .off-grid .result) (omega (arith, c .before .before .loop-test .taken)) (c .off-grid .ensures) ∙ l .inv
 
 returns : tie.Need-returns Inv-loop μ-loop
 returns c = let l = c .before .loop in walk-done _ (l .i) (l .off) (omega arith) ∙ l .inv

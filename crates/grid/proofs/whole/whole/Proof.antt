@@ -33,7 +33,9 @@ is-whole c =
     back-64 (2 ^ 24) _ (wholeOf b) (ap (toSigned 63) (c .float-of .ensures .0) ∙ cast-whole-of b (allowed c)) (whole-small b (c .before .before .pre)) (omega arith)
 
 returns-2 : tie.Need-returns-2
-returns-2 c = let w = is-whole (c .before) in (w, subst (λ (z : ℤ). natAbs z ≤ 2 ^ 24) (sym w) (whole-small (c .before .before .before .args .b) (c .before .before .before .pre)))
+returns-2 c =
+    let w = is-whole (c .before) in
+    (w, subst (λ (z : ℤ). natAbs z ≤ 2 ^ 24) (sym w) (whole-small (c .before .before .before .args .b) (c .before .before .before .pre)))
 
 pub whole-spec : {M : Type 1} → statement M
 whole-spec = tie.close (tie.spec returns float-of-requires float-to-int-result returns-2)

@@ -97,15 +97,20 @@ same-length-6 c = search needs
 
 returns-2 : tie.Need-returns-2
 returns-2 c =
+    let read-u16s = c .before .before .before .before .before .before .before .before .before .before .before .before .before .before .before .before .before .before .before .before .before .before .before .read-u16s in
+    let read-u16s2 = c .before .before .before .before .before .before .before .before .before .before .before .before .before .before .before .before .before .before .before .read-u16s2 in
+    let parts-rule = c .before .before .before .before .before .before .before .before .before .before .before .before .parts-rule in
+    let enum-told′ = c .before .before .before .before .before .before .before .before .before .before .enum-told in
+    let columns = c .before .before .before .before .before .before .before .columns in
     let st = c .before .before .before .before .before .before .before .before .before .before .before .before .before .before .before .before .before .before .before .before .before .before .before .before .before .before .before .before .before .before in
     let h = st .args .h in
     let b = st .args .b .now in
     let l = head-stands (st .pre .0 .0) b h (st .pre .0 .1) in
-    let ec = c .before .before .before .before .before .before .before .before .before .before .before .before .before .before .before .before .before .before .before .before .before .before .before .read-u16s .ensures ∙ counts-read h b _ (st .pre .1) in
-    let el = c .before .before .before .before .before .before .before .before .before .before .before .before .before .before .before .before .before .before .before .read-u16s2 .ensures ∙ lens-read h b _ (st .pre .2) in
+    let ec = read-u16s .ensures ∙ counts-read h b _ (st .pre .1) in
+    let el = read-u16s2 .ensures ∙ lens-read h b _ (st .pre .2) in
     let et = types-read h b _ _ refl refl in
     let w = c .before .w2 .given in
-    loads-columns h b _ _ _ _ _ (h .v) ec el et refl (rw (c .before .before .before .before .before .before .before .before .before .before .enum-told .given .1) at (c .before .before .before .before .before .before .before .before .before .before .before .before .parts-rule .ensures)) (w .0 .0) (rw (w .1) at (c .before .before .before .before .before .before .before .columns .ensures))
+    loads-columns h b _ _ _ _ _ (h .v) ec el et refl (rw (enum-told′ .given .1) at (parts-rule .ensures)) (w .0 .0) (rw (w .1) at (columns .ensures))
 
 enum-told-2 : tie.Need-enum-told-2
 enum-told-2 c = search needs
@@ -126,16 +131,23 @@ part-page-rules-end c =
 
 page-rules-requires : tie.Need-page-rules-requires
 page-rules-requires c κs =
+    let shared-slice-known = c .before .before .before .before .before .before .before .before .before .before .before .before .before .before .before .before .before .before .before .before .before .before .before .before .before .before .before .before .before .before .before .before .before .shared-slice-known in
+    let read-u16s = c .before .before .before .before .before .before .before .before .before .before .before .before .before .before .before .before .before .before .before .before .before .before .before .before .before .before .before .read-u16s in
+    let read-u16s2 = c .before .before .before .before .before .before .before .before .before .before .before .before .before .before .before .before .before .before .before .before .before .before .before .read-u16s2 in
+    let parts-rule = c .before .before .before .before .before .before .before .before .before .before .before .before .before .before .before .before .parts-rule in
+    let enum-told′ = c .before .before .before .before .before .before .before .before .before .before .before .before .before .before .enum-told in
+    let columns = c .before .before .before .before .before .before .before .before .before .before .before .columns in
+    let enum-told2 = c .before .before .before .before .before .enum-told2 in
     let st = c .before .before .before .before .before .before .before .before .before .before .before .before .before .before .before .before .before .before .before .before .before .before .before .before .before .before .before .before .before .before .before .before .before .before in
     let h = st .args .h in
     let b = st .args .b .now in
     let l = head-stands (st .pre .0 .0) b h (st .pre .0 .1) in
-    let ec = c .before .before .before .before .before .before .before .before .before .before .before .before .before .before .before .before .before .before .before .before .before .before .before .before .before .before .before .read-u16s .ensures ∙ counts-read h b _ (st .pre .1) in
-    let el = c .before .before .before .before .before .before .before .before .before .before .before .before .before .before .before .before .before .before .before .before .before .before .before .read-u16s2 .ensures ∙ lens-read h b _ (st .pre .2) in
+    let ec = read-u16s .ensures ∙ counts-read h b _ (st .pre .1) in
+    let el = read-u16s2 .ensures ∙ lens-read h b _ (st .pre .2) in
     let et = types-read h b _ _ refl refl in
-    let k = rw (c .before .before .before .before .before .enum-told2 .given .1) at (c .before .before .before .before .before .before .before .before .before .before .before .columns .ensures) in
+    let k = rw (enum-told2 .given .1) at (columns .ensures) in
     let n = vertices-long h b _ _ (k .vertices refl) in
-    (head-box (st .pre .0 .0) b h (λ i. c .before .before .before .before .before .before .before .before .before .before .before .before .before .before .before .before .before .before .before .before .before .before .before .before .before .before .before .before .before .before .before .before .before .shared-slice-known .given i .fits) (st .pre .0 .1), rw (n .0) (loads-holds h b _ _ b b _ (h .v) ec el et refl (rw (c .before .before .before .before .before .before .before .before .before .before .before .before .before .before .enum-told .given .1) at (c .before .before .before .before .before .before .before .before .before .before .before .before .before .before .before .before .parts-rule .ensures))), n .1 ∙ sym (n .0), omega (arith, n .0, l .few))
+    (head-box (st .pre .0 .0) b h (λ i. shared-slice-known .given i .fits) (st .pre .0 .1), rw (n .0) (loads-holds h b _ _ b b _ (h .v) ec el et refl (rw (enum-told′ .given .1) at (parts-rule .ensures))), n .1 ∙ sym (n .0), omega (arith, n .0, l .few))
 
 same-length-7 : tie.Need-same-length-7
 same-length-7 c = search needs
@@ -151,14 +163,20 @@ same-length-10 c = search needs
 
 returns-3 : tie.Need-returns-3
 returns-3 c =
+    let read-u16s = c .before .before .before .before .before .before .before .before .before .before .before .before .before .before .before .before .before .before .before .before .before .before .before .before .before .before .before .before .read-u16s in
+    let read-u16s2 = c .before .before .before .before .before .before .before .before .before .before .before .before .before .before .before .before .before .before .before .before .before .before .before .before .read-u16s2 in
+    let parts-rule = c .before .before .before .before .before .before .before .before .before .before .before .before .before .before .before .before .before .parts-rule in
+    let enum-told′ = c .before .before .before .before .before .before .before .before .before .before .before .before .before .before .before .enum-told in
+    let columns = c .before .before .before .before .before .before .before .before .before .before .before .before .columns in
+    let enum-told2 = c .before .before .before .before .before .before .enum-told2 in
     let st = c .before .before .before .before .before .before .before .before .before .before .before .before .before .before .before .before .before .before .before .before .before .before .before .before .before .before .before .before .before .before .before .before .before .before .before in
     let h = st .args .h in
     let b = st .args .b .now in
     let l = head-stands (st .pre .0 .0) b h (st .pre .0 .1) in
-    let ec = c .before .before .before .before .before .before .before .before .before .before .before .before .before .before .before .before .before .before .before .before .before .before .before .before .before .before .before .before .read-u16s .ensures ∙ counts-read h b _ (st .pre .1) in
-    let el = c .before .before .before .before .before .before .before .before .before .before .before .before .before .before .before .before .before .before .before .before .before .before .before .before .read-u16s2 .ensures ∙ lens-read h b _ (st .pre .2) in
+    let ec = read-u16s .ensures ∙ counts-read h b _ (st .pre .1) in
+    let el = read-u16s2 .ensures ∙ lens-read h b _ (st .pre .2) in
     let et = types-read h b _ _ refl refl in
-    loads-rules h b _ _ _ _ _ (h .v) ec el et refl (rw (c .before .before .before .before .before .before .before .before .before .before .before .before .before .before .before .enum-told .given .1) at (c .before .before .before .before .before .before .before .before .before .before .before .before .before .before .before .before .before .parts-rule .ensures)) (rw (c .before .before .before .before .before .before .enum-told2 .given .1) at (c .before .before .before .before .before .before .before .before .before .before .before .before .columns .ensures)) (c .page-rules .result) (c .page-rules .ensures)
+    loads-rules h b _ _ _ _ _ (h .v) ec el et refl (rw (enum-told′ .given .1) at (parts-rule .ensures)) (rw (enum-told2 .given .1) at (columns .ensures)) (c .page-rules .result) (c .page-rules .ensures)
 
 pub load-spec : {M : Type 1} → statement M
 load-spec =

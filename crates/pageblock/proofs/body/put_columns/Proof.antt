@@ -32,7 +32,13 @@ same-length : tie.Need-same-length
 same-length c = search needs
 
 returns : tie.Need-returns
-returns c = let a = c .before .before .before .before .before .before .before .before .before .before .before .before .before .before .before .before .before .before .before .before .args in let p = c .before .before .before .before .before .before .before .before .before .before .before .before .before .before .before .before .before .before .before .before .pre in columns-put (a .xs .now) (a .ys .now) (a .d .now) _ _ _ _ (a .at) (a .fx .bytes) (a .fy .bytes) (p .2 .size) (p .3 .size) (c .before .before .before .before .before .before .before .before .before .before .before .before .before .before .before .put-u32 .ensures) (c .before .before .before .before .before .before .before .before .before .before .before .put-u322 .ensures) (c .before .before .before .before .before .before .before .put-column .ensures) (c .before .before .put-column2 .ensures)
+returns c =
+    let put-u32 = c .before .before .before .before .before .before .before .before .before .before .before .before .before .before .before .put-u32 in
+    let put-u322 = c .before .before .before .before .before .before .before .before .before .before .before .put-u322 in
+    let put-column = c .before .before .before .before .before .before .before .put-column in
+    let a = c .before .before .before .before .before .before .before .before .before .before .before .before .before .before .before .before .before .before .before .before .args in
+    let p = c .before .before .before .before .before .before .before .before .before .before .before .before .before .before .before .before .before .before .before .before .pre in
+    columns-put (a .xs .now) (a .ys .now) (a .d .now) _ _ _ _ (a .at) (a .fx .bytes) (a .fy .bytes) (p .2 .size) (p .3 .size) (put-u32 .ensures) (put-u322 .ensures) (put-column .ensures) (c .before .before .put-column2 .ensures)
 
 pub put-columns-spec : {M : Type 1} → statement M
 put-columns-spec =

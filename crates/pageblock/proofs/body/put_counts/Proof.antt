@@ -23,7 +23,11 @@ same-length : tie.Need-same-length
 same-length c = search needs
 
 returns : tie.Need-returns
-returns c = let a = c .before .before .before .before .before .before .before .before .before .before .before .before .before .args in counts-put (a .g) (a .v) (a .p) (a .d .now) _ _ _ (a .at) (c .before .before .before .before .before .before .before .before .before .before .put-u16 .ensures) (c .before .before .before .before .before .before .put-u162 .ensures) (c .before .before .put-u163 .ensures)
+returns c =
+    let put-u16 = c .before .before .before .before .before .before .before .before .before .before .put-u16 in
+    let put-u162 = c .before .before .before .before .before .before .put-u162 in
+    let a = c .before .before .before .before .before .before .before .before .before .before .before .before .before .args in
+    counts-put (a .g) (a .v) (a .p) (a .d .now) _ _ _ (a .at) (put-u16 .ensures) (put-u162 .ensures) (c .before .before .put-u163 .ensures)
 
 pub put-counts-spec : {M : Type 1} → statement M
 put-counts-spec =

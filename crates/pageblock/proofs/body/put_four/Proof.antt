@@ -29,7 +29,12 @@ same-length : tie.Need-same-length
 same-length c = search needs
 
 returns : tie.Need-returns
-returns c = let a = c .before .before .before .before .before .before .before .before .before .before .before .before .before .before .before .before .before .args in box-put (record { least-x = a .least-x; least-y = a .least-y; greatest-x = a .greatest-x; greatest-y = a .greatest-y }) (a .d .now) _ _ _ _ (a .at) (c .before .before .before .before .before .before .before .before .before .before .before .before .before .before .put-u64 .ensures) (c .before .before .before .before .before .before .before .before .before .before .put-u642 .ensures) (c .before .before .before .before .before .before .put-u643 .ensures) (c .before .before .put-u644 .ensures)
+returns c =
+    let put-u64 = c .before .before .before .before .before .before .before .before .before .before .before .before .before .before .put-u64 in
+    let put-u642 = c .before .before .before .before .before .before .before .before .before .before .put-u642 in
+    let put-u643 = c .before .before .before .before .before .before .put-u643 in
+    let a = c .before .before .before .before .before .before .before .before .before .before .before .before .before .before .before .before .before .args in
+    box-put (record { least-x = a .least-x; least-y = a .least-y; greatest-x = a .greatest-x; greatest-y = a .greatest-y }) (a .d .now) _ _ _ _ (a .at) (put-u64 .ensures) (put-u642 .ensures) (put-u643 .ensures) (c .before .before .put-u644 .ensures)
 
 pub put-four-spec : {M : Type 1} → statement M
 put-four-spec =

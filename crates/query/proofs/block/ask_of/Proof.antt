@@ -17,7 +17,9 @@ asked-requires c κs = search needs
 
 returns : tie.Need-returns
 unfolding saidLen
-returns c = c .asked .ensures ∙ sym (ask-exactly _ _ (sym (c .before .before .before .before .before .block-len .ensures) ∙ ap saidLen (c .before .before .before .len .given .1)) (c .before .if1 .taken))
+returns c =
+    let block-len = c .before .before .before .before .before .block-len in
+    c .asked .ensures ∙ sym (ask-exactly _ _ (sym (block-len .ensures) ∙ ap saidLen (c .before .before .before .len .given .1)) (c .before .if1 .taken))
 
 unsound-requires : tie.Need-unsound-requires
 unsound-requires c κs = search needs
@@ -27,7 +29,9 @@ enum-known-len-2 c = search needs
 
 returns-2 : tie.Need-returns-2
 unfolding saidLen
-returns-2 c = c .unsound .ensures ∙ sym (ask-longer _ _ (sym (c .before .before .before .before .before .block-len .ensures) ∙ ap saidLen (c .before .before .before .len .given .1)) (c .before .if1 .left))
+returns-2 c =
+    let block-len = c .before .before .before .before .before .block-len in
+    c .unsound .ensures ∙ sym (ask-longer _ _ (sym (block-len .ensures) ∙ ap saidLen (c .before .before .before .len .given .1)) (c .before .if1 .left))
 
 returns-3 : tie.Need-returns-3
 unfolding saidLen saidAsk

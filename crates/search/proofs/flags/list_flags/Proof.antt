@@ -24,33 +24,45 @@ window-requires c κs = search needs
 
 list-word-requires : tie.Need-list-word-requires Inv-loop μ-loop
 list-word-requires c κs =
-    let x = number (c .before .before .before .before .before .before .args .flags .now) in
+    let args = c .before .before .before .before .before .before .args in
+    let pre = c .before .before .before .before .before .before .pre in
+    let x = number (args .flags .now) in
     let l = c .before .before .before .loop in
-    let t : l .k < length (placesIn 0 262144 x) = omega (arith, c .before .before .loop-test .taken, c .before .before .before .before .before .before .pre .0) in
-    let r : length (placesIn 0 262144 x) ≤ length (c .before .before .before .before .before .before .args .out .now) = omega (arith, c .before .before .before .before .before .before .pre .0, c .before .before .before .before .before .before .pre .1) in
+    let t : l .k < length (placesIn 0 262144 x) = omega (arith, c .before .before .loop-test .taken, pre .0) in
+    let r : length (placesIn 0 262144 x) ≤ length (args .out .now) = omega (arith, pre .0, pre .1) in
     (flagging-here x _ _ _ _ (l .inv) t, rw (c .before .window .ensures) (flagging-room x _ _ _ _ (l .inv) t r))
 
 add-place : tie.Need-add-place Inv-loop μ-loop
 add-place c =
-    let x = number (c .before .before .before .before .before .before .before .before .before .args .flags .now) in
+    let args = c .before .before .before .before .before .before .before .before .before .args in
+    let pre = c .before .before .before .before .before .before .before .before .before .pre in
+    let loop-test = c .before .before .before .before .before .loop-test in
+    let x = number (args .flags .now) in
     let l = c .before .before .before .before .before .before .loop in
-    let t : l .k < length (placesIn 0 262144 x) = omega (arith, c .before .before .before .before .before .loop-test .taken, c .before .before .before .before .before .before .before .before .before .pre .0) in
+    let t : l .k < length (placesIn 0 262144 x) = omega (arith, loop-test .taken, pre .0) in
     omega (arith, flagging-here x _ _ _ _ (l .inv) t)
 
 loop-less : tie.Need-loop-less Inv-loop μ-loop
 loop-less c =
-    let x = number (c .before .before .before .before .before .before .before .before .before .args .flags .now) in
+    let args = c .before .before .before .before .before .before .before .before .before .args in
+    let pre = c .before .before .before .before .before .before .before .before .before .pre in
+    let loop-test = c .before .before .before .before .before .loop-test in
+    let x = number (args .flags .now) in
     let l = c .before .before .before .before .before .before .loop in
-    let t : l .k < length (placesIn 0 262144 x) = omega (arith, c .before .before .before .before .before .loop-test .taken, c .before .before .before .before .before .before .before .before .before .pre .0) in
+    let t : l .k < length (placesIn 0 262144 x) = omega (arith, loop-test .taken, pre .0) in
     omega (arith, flagging-here x _ _ _ _ (l .inv) t)
 
 loop-again : tie.Need-loop-again Inv-loop μ-loop
 loop-again c =
-    let x = number (c .before .before .before .before .before .before .before .before .before .args .flags .now) in
+    let args = c .before .before .before .before .before .before .before .before .before .args in
+    let pre = c .before .before .before .before .before .before .before .before .before .pre in
+    let loop-test = c .before .before .before .before .before .loop-test in
+    let window = c .before .before .before .before .window in
+    let x = number (args .flags .now) in
     let l = c .before .before .before .before .before .before .loop in
-    let t : l .k < length (placesIn 0 262144 x) = omega (arith, c .before .before .before .before .before .loop-test .taken, c .before .before .before .before .before .before .before .before .before .pre .0) in
+    let t : l .k < length (placesIn 0 262144 x) = omega (arith, loop-test .taken, pre .0) in
     let e = c .before .before .list-word .ensures in
-    let s = c .before .before .before .before .window .ensures in
+    let s = window .ensures in
     flagging-more x _ _ _ _ (l .inv) t _ _ (rw (← s) (e .1)) (rw (← s) (e .0))
 
 same-length : tie.Need-same-length Inv-loop μ-loop

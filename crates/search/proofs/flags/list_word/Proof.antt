@@ -20,13 +20,20 @@ list-bit-requires c κs =
     (omega (arith, wording-here _ _ _ _ _ _ _ _ w (c .before .loop-test .taken), st .pre .0), wording-room _ _ _ _ _ _ _ _ w (c .before .loop-test .taken) (st .pre .1))
 
 add-place : tie.Need-add-place Inv-loop μ-loop
-add-place c = omega (arith, wording-here _ _ _ _ _ _ _ _ (c .before .before .before .before .before .loop .inv) (c .before .before .before .before .loop-test .taken), c .before .before .before .before .before .before .before .pre .0)
+add-place c =
+    let pre = c .before .before .before .before .before .before .before .pre in
+    let loop = c .before .before .before .before .before .loop in
+    let loop-test = c .before .before .before .before .loop-test in
+    omega (arith, wording-here _ _ _ _ _ _ _ _ (loop .inv) (loop-test .taken), pre .0)
 
 loop-less : tie.Need-loop-less Inv-loop μ-loop
 loop-less c = half-less _ (c .before .before .before .before .loop-test .taken)
 
 loop-again : tie.Need-loop-again Inv-loop μ-loop
-loop-again c = wording-more _ _ _ _ _ _ _ _ (c .before .before .before .before .before .loop .inv) (c .before .before .before .before .loop-test .taken) _ _ (c .before .before .list-bit .ensures .1) (c .before .before .list-bit .ensures .0)
+loop-again c =
+    let loop = c .before .before .before .before .before .loop in
+    let loop-test = c .before .before .before .before .loop-test in
+    wording-more _ _ _ _ _ _ _ _ (loop .inv) (loop-test .taken) _ _ (c .before .before .list-bit .ensures .1) (c .before .before .list-bit .ensures .0)
 
 same-length : tie.Need-same-length Inv-loop μ-loop
 same-length c = c .before .loop .inv .listing .long

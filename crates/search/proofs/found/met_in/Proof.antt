@@ -15,9 +15,10 @@ enum-known-w c = search needs
 
 returns : tie.Need-returns
 returns c =
+    let args = c .before .before .before .before .before .before .args in
     let w = c .before .w .given in
-    let s = c .before .before .before .before .before .before .args .s .now in
-    frame-refused (c .before .before .before .before .before .before .args .a) s (w .0 .0) (frame-refusal-said s _ (c .before .before .before .frame .ensures) (w .0 .0) (w .1))
+    let s = args .s .now in
+    frame-refused (args .a) s (w .0 .0) (frame-refusal-said s _ (c .before .before .before .frame .ensures) (w .0 .0) (w .1))
 
 enum-told : tie.Need-enum-told
 enum-told c = search needs

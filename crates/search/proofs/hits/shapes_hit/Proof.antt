@@ -122,18 +122,24 @@ hit-requires c κs =
     (s .pre .0, o .same, all-part finite (l .at) (end - l .at) (a .xs .now) (s .pre .4), all-part finite (l .at) (end - l .at) (a .ys .now) (s .pre .5))
 
 add-note : tie.Need-add-note Inv-loop μ-loop
-add-note c = omega (arith, c .before .before .before .before .before .before .before .before .before .before .before .before .before .before .pre .1, c .before .before .before .before .before .before .loop-test .taken)
+add-note c =
+    let pre = c .before .before .before .before .before .before .before .before .before .before .before .before .before .before .pre in
+    let loop-test = c .before .before .before .before .before .before .loop-test in
+    omega (arith, pre .1, loop-test .taken)
 
 note-requires : tie.Need-note-requires Inv-loop μ-loop
 note-requires c κs = search needs
 
 add-found : tie.Need-add-found Inv-loop μ-loop
 add-found c =
+    let pre = c .before .before .before .before .before .before .before .before .before .before .before .before .before .before .before .before .before .before .pre in
+    let loop-test = c .before .before .before .before .before .before .before .before .before .before .loop-test in
+    let hit = c .before .before .before .before .hit in
     let a = c .before .before .before .before .before .before .before .before .before .before .before .before .before .before .before .before .before .before .args in
     let l = c .before .before .before .before .before .before .before .before .before .before .before .loop in
-    let t = c .before .before .before .before .before .before .before .before .before .before .loop-test .taken in
+    let t = loop-test .taken in
     let w = l .inv .1 in
-    omega (arith, w .few, c .before .before .note .ensures .0, one-le (c .before .before .before .before .hit .result), c .before .before .before .before .before .before .before .before .before .before .before .before .before .before .before .before .before .before .pre .1, t)
+    omega (arith, w .few, c .before .before .note .ensures .0, one-le (hit .result), pre .1, t)
 
 add-i : tie.Need-add-i Inv-loop μ-loop
 add-i c = omega arith
@@ -143,17 +149,20 @@ loop-less c = omega arith
 
 loop-again : tie.Need-loop-again Inv-loop μ-loop
 loop-again c =
+    let loop-test = c .before .before .before .before .before .before .before .before .before .before .loop-test in
+    let total′ = c .before .before .before .before .before .before .before .total in
+    let hit = c .before .before .before .before .hit in
     let a = c .before .before .before .before .before .before .before .before .before .before .before .before .before .before .before .before .before .before .args in
     let l = c .before .before .before .before .before .before .before .before .before .before .before .loop in
-    let t = c .before .before .before .before .before .before .before .before .before .before .loop-test .taken in
+    let t = loop-test .taken in
     let e = l .k + getD (a .counts .now) (l .i) 0 in
-    let end = l .at + c .before .before .before .before .before .before .before .total .result in
-    let g = ap (λ (m : ℕ). l .at + m) (c .before .before .before .before .before .before .before .total .ensures) in
+    let end = l .at + total′ .result in
+    let g = ap (λ (m : ℕ). l .at + m) (total′ .ensures) in
     let o = outlineAt (getD (a .types .now) (l .i) 0) (a .lens .now) (a .xs .now) (a .ys .now) (l .k) e (l .at) end in (
       walking-more (a .types .now) (a .counts .now) (a .lens .now) (a .xs .now) (a .ys .now) (l .i) (l .k) (l .at) (l .inv .0) t e end refl g,
       noting-more (a .a) (a .n) (outlinesOf (a .types .now) (a .counts .now) (a .lens .now) (a .xs .now) (a .ys .now)) (a .n + length (a .types .now)) (a .flags .now) (l .i) (l .found) (l .flags) (l .inv .1) o _ _
-          (walking-stands (a .types .now) (a .counts .now) (a .lens .now) (a .xs .now) (a .ys .now) (l .i) (l .k) (l .at) (l .inv .0) t e end refl g) (omega (arith, t)) (c .before .before .note .ensures .0 ∙ ap (λ (b : Bool). onlyIf b 1) (c .before .before .before .before .hit .ensures))
-          (rw (← c .before .before .before .before .hit .ensures) (c .before .before .note .ensures .1)) (c .before .flags .given),
+          (walking-stands (a .types .now) (a .counts .now) (a .lens .now) (a .xs .now) (a .ys .now) (l .i) (l .k) (l .at) (l .inv .0) t e end refl g) (omega (arith, t)) (c .before .before .note .ensures .0 ∙ ap (λ (b : Bool). onlyIf b 1) (hit .ensures))
+          (rw (← hit .ensures) (c .before .before .note .ensures .1)) (c .before .flags .given),
     )
 
 same-length : tie.Need-same-length Inv-loop μ-loop

@@ -34,12 +34,13 @@ same-length-4 c = search needs
 
 returns : tie.Need-returns
 returns c =
+    let load = c .before .before .before .before .before .before .before .before .before .before .before .before .load in
     let st = c .before .before .before .before .before .before .before .before .before .before .before .before .before .before .before .before .before .before .before .before .before .before .before in
     let h = st .args .h in
     let b = st .args .b .now in
     let l = head-stands (st .pre .3 .0) b h (st .pre .3 .1) in
     let w = c .before .before .w .given in
-    rw (c .on-page .ensures) (contents-refused (st .args .a) (st .args .k) (st .args .n) h b (w .0 .0) (rw (w .1) at (c .before .before .before .before .before .before .before .before .before .before .before .before .load .ensures .verdict)))
+    rw (c .on-page .ensures) (contents-refused (st .args .a) (st .args .k) (st .args .n) h b (w .0 .0) (rw (w .1) at (load .ensures .verdict)))
 
 enum-told : tie.Need-enum-told
 enum-told c = search needs
@@ -68,11 +69,13 @@ part-shapes-hit-end c =
 
 shapes-hit-requires : tie.Need-shapes-hit-requires
 shapes-hit-requires c κs =
+    let load = c .before .before .before .before .before .before .before .before .before .before .before .before .before .before .before .before .before .load in
+    let enum-told′ = c .before .before .before .before .before .before .before .enum-told in
     let st = c .before .before .before .before .before .before .before .before .before .before .before .before .before .before .before .before .before .before .before .before .before .before .before .before .before .before .before .before in
     let h = st .args .h in
     let b = st .args .b .now in
     let l = head-stands (st .pre .3 .0) b h (st .pre .3 .1) in
-    let k = c .before .before .before .before .before .before .before .before .before .before .before .before .before .before .before .before .before .load .ensures .lists (c .before .before .before .before .before .before .before .enum-told .given .1) in
+    let k = load .ensures .lists (enum-told′ .given .1) in
     let y = loaded-ready h b _ _ _ _ k _ (types-read h b _ _ refl refl) in
     (st .pre .0, omega (arith, st .pre .2, y .0), y .1, y .2, k .finite-x, k .finite-y)
 
@@ -93,11 +96,13 @@ same-length-9 c = search needs
 
 returns-2 : tie.Need-returns-2
 returns-2 c =
+    let load = c .before .before .before .before .before .before .before .before .before .before .before .before .before .before .before .before .before .before .before .before .load in
+    let enum-told′ = c .before .before .before .before .before .before .before .before .before .before .enum-told in
     let st = c .before .before .before .before .before .before .before .before .before .before .before .before .before .before .before .before .before .before .before .before .before .before .before .before .before .before .before .before .before .before .before in
     let h = st .args .h in
     let b = st .args .b .now in
     let l = head-stands (st .pre .3 .0) b h (st .pre .3 .1) in
-    let k = c .before .before .before .before .before .before .before .before .before .before .before .before .before .before .before .before .before .before .before .before .load .ensures .lists (c .before .before .before .before .before .before .before .before .before .before .enum-told .given .1) in
+    let k = load .ensures .lists (enum-told′ .given .1) in
     let r = c .before .before .shapes-hit .ensures in
     contents-met h b _ _ _ _ k _ (types-read h b _ _ refl refl) (st .args .a) (st .args .k) (st .args .n) _ (r .0) (r .1)
 

@@ -41,12 +41,15 @@ glance-requires c κs = (c .before .before .loop .inv .from-d .within .shapes, a
 
 opens-requires : tie.Need-opens-requires Inv-loop μ-loop
 opens-requires c κs =
+    let args = c .before .before .before .before .before .args in
+    let pre = c .before .before .before .before .before .pre in
+    let shared-slice-known = c .before .before .before .before .shared-slice-known in
     let g = c .glance .ensures in
-    let s = c .before .before .before .before .before .args .s .now in
+    let s = args .s .now in
     let k = page-is s (c .before .before .before .loop .c) (g .0) (g .1) in (
-      c .before .before .before .before .before .pre .0,
+      pre .0,
       subst (λ (x : Glance). FiniteBox (patterns (x .bounds))) (sym (g .2))
-          (head-box (c .before .before .before .loop .c .edition) _ (g .0 .head) (bytes-part s (g .0 .body) (g .0 .len) (λ i. c .before .before .before .before .shared-slice-known .given i .fits)) (k .headed)),
+          (head-box (c .before .before .before .loop .c .edition) _ (g .0 .head) (bytes-part s (g .0 .body) (g .0 .len) (λ i. shared-slice-known .given i .fits)) (k .headed)),
     )
 
 returns : tie.Need-returns Inv-loop μ-loop
@@ -61,8 +64,9 @@ loop-less c =
 
 loop-again : tie.Need-loop-again Inv-loop μ-loop
 loop-again c =
+    let loop = c .before .before .before .before .before .before .loop in
     let g = c .before .before .before .glance .ensures in
-    rw (ap (λ (x : Glance). x .next) (g .2)) (skipping-more _ _ _ _ (c .before .before .before .before .before .before .loop .inv) (g .0) (g .1) (met-at _ _ (g .0) (g .2) (sym (c .before .before .opens .ensures) ∙ c .before .if2 .left)))
+    rw (ap (λ (x : Glance). x .next) (g .2)) (skipping-more _ _ _ _ (loop .inv) (g .0) (g .1) (met-at _ _ (g .0) (g .2) (sym (c .before .before .opens .ensures) ∙ c .before .if2 .left)))
 
 returns-2 : tie.Need-returns-2 Inv-loop μ-loop
 returns-2 c = skips-end _ _ _ _ (c .before .before .loop .inv) (ahead-stop _ _ _ (c .before .before .loop .inv .from-d) (sym (c .before .at-end .ensures) ∙ not-false _ (c .if1 .left)))

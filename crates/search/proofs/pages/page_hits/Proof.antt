@@ -34,55 +34,76 @@ slice-relend-prefix-contents-hit c =
 
 slice-aggregate-contents-hit : tie.Need-slice-aggregate-contents-hit
 slice-aggregate-contents-hit c =
+    let args = c .before .before .before .before .before .before .before .before .before .before .args in
+    let pre = c .before .before .before .before .before .before .before .before .before .before .pre in
     let p = c .before .before .before .page-at .result in
-    let m = limits-of (c .before .before .before .before .before .before .before .before .before .before .args .c .edition) _ (p .head) (page-is _ _ p (c .before .before .before .page-at .ensures) .headed) in
-    first-of (p .head .g) 256 (c .before .before .before .before .before .before .before .before .before .before .args .counts .now) (c .before .before .before .before .before .before .before .before .before .before .pre .4) (m .few)
+    let m = limits-of (args .c .edition) _ (p .head) (page-is _ _ p (c .before .before .before .page-at .ensures) .headed) in
+    first-of (p .head .g) 256 (args .counts .now) (pre .4) (m .few)
 
 slice-relend-prefix-contents-hit-2 : tie.Need-slice-relend-prefix-contents-hit-2
 slice-relend-prefix-contents-hit-2 c =
+    let args = c .before .before .before .before .before .before .before .before .before .before .args in
+    let pre = c .before .before .before .before .before .before .before .before .before .before .pre in
     let p = c .before .before .before .page-at .result in
-    let m = limits-of (c .before .before .before .before .before .before .before .before .before .before .args .c .edition) _ (p .head) (page-is _ _ p (c .before .before .before .page-at .ensures) .headed) in
-    omega (arith, le-trans (m .parts) (m .vertices), c .before .before .before .before .before .before .before .before .before .before .pre .5)
+    let m = limits-of (args .c .edition) _ (p .head) (page-is _ _ p (c .before .before .before .page-at .ensures) .headed) in
+    omega (arith, le-trans (m .parts) (m .vertices), pre .5)
 
 slice-aggregate-contents-hit-2 : tie.Need-slice-aggregate-contents-hit-2
 slice-aggregate-contents-hit-2 c =
-    let p = c .before .before .before .before .page-at .result in
-    let m = limits-of (c .before .before .before .before .before .before .before .before .before .before .before .args .c .edition) _ (p .head) (page-is _ _ p (c .before .before .before .before .page-at .ensures) .headed) in
-    first-of (p .head .p) 2048 (c .before .before .before .before .before .before .before .before .before .before .before .args .lens .now) (c .before .before .before .before .before .before .before .before .before .before .before .pre .5) (le-trans (m .parts) (m .vertices))
+    let args = c .before .before .before .before .before .before .before .before .before .before .before .args in
+    let pre = c .before .before .before .before .before .before .before .before .before .before .before .pre in
+    let page-at = c .before .before .before .before .page-at in
+    let p = page-at .result in
+    let m = limits-of (args .c .edition) _ (p .head) (page-is _ _ p (page-at .ensures) .headed) in
+    first-of (p .head .p) 2048 (args .lens .now) (pre .5) (le-trans (m .parts) (m .vertices))
 
 slice-relend-prefix-contents-hit-3 : tie.Need-slice-relend-prefix-contents-hit-3
 slice-relend-prefix-contents-hit-3 c =
-    let p = c .before .before .before .before .page-at .result in
-    let m = limits-of (c .before .before .before .before .before .before .before .before .before .before .before .args .c .edition) _ (p .head) (page-is _ _ p (c .before .before .before .before .page-at .ensures) .headed) in
-    omega (arith, m .vertices, c .before .before .before .before .before .before .before .before .before .before .before .pre .6)
+    let args = c .before .before .before .before .before .before .before .before .before .before .before .args in
+    let pre = c .before .before .before .before .before .before .before .before .before .before .before .pre in
+    let page-at = c .before .before .before .before .page-at in
+    let p = page-at .result in
+    let m = limits-of (args .c .edition) _ (p .head) (page-is _ _ p (page-at .ensures) .headed) in
+    omega (arith, m .vertices, pre .6)
 
 slice-aggregate-contents-hit-3 : tie.Need-slice-aggregate-contents-hit-3
 slice-aggregate-contents-hit-3 c =
-    let p = c .before .before .before .before .before .page-at .result in
-    let m = limits-of (c .before .before .before .before .before .before .before .before .before .before .before .before .args .c .edition) _ (p .head) (page-is _ _ p (c .before .before .before .before .before .page-at .ensures) .headed) in
-    first-of (p .head .v) 2048 (c .before .before .before .before .before .before .before .before .before .before .before .before .args .xs .now) (c .before .before .before .before .before .before .before .before .before .before .before .before .pre .6) (m .vertices)
+    let args = c .before .before .before .before .before .before .before .before .before .before .before .before .args in
+    let pre = c .before .before .before .before .before .before .before .before .before .before .before .before .pre in
+    let page-at = c .before .before .before .before .before .page-at in
+    let p = page-at .result in
+    let m = limits-of (args .c .edition) _ (p .head) (page-is _ _ p (page-at .ensures) .headed) in
+    first-of (p .head .v) 2048 (args .xs .now) (pre .6) (m .vertices)
 
 slice-relend-prefix-contents-hit-4 : tie.Need-slice-relend-prefix-contents-hit-4
 slice-relend-prefix-contents-hit-4 c =
-    let p = c .before .before .before .before .before .page-at .result in
-    let m = limits-of (c .before .before .before .before .before .before .before .before .before .before .before .before .args .c .edition) _ (p .head) (page-is _ _ p (c .before .before .before .before .before .page-at .ensures) .headed) in
-    omega (arith, m .vertices, c .before .before .before .before .before .before .before .before .before .before .before .before .pre .7)
+    let args = c .before .before .before .before .before .before .before .before .before .before .before .before .args in
+    let pre = c .before .before .before .before .before .before .before .before .before .before .before .before .pre in
+    let page-at = c .before .before .before .before .before .page-at in
+    let p = page-at .result in
+    let m = limits-of (args .c .edition) _ (p .head) (page-is _ _ p (page-at .ensures) .headed) in
+    omega (arith, m .vertices, pre .7)
 
 slice-aggregate-contents-hit-4 : tie.Need-slice-aggregate-contents-hit-4
 slice-aggregate-contents-hit-4 c =
-    let p = c .before .before .before .before .before .before .page-at .result in
-    let m = limits-of (c .before .before .before .before .before .before .before .before .before .before .before .before .before .args .c .edition) _ (p .head) (page-is _ _ p (c .before .before .before .before .before .before .page-at .ensures) .headed) in
-    first-of (p .head .v) 2048 (c .before .before .before .before .before .before .before .before .before .before .before .before .before .args .ys .now) (c .before .before .before .before .before .before .before .before .before .before .before .before .before .pre .7) (m .vertices)
+    let args = c .before .before .before .before .before .before .before .before .before .before .before .before .before .args in
+    let pre = c .before .before .before .before .before .before .before .before .before .before .before .before .before .pre in
+    let page-at = c .before .before .before .before .before .before .page-at in
+    let p = page-at .result in
+    let m = limits-of (args .c .edition) _ (p .head) (page-is _ _ p (page-at .ensures) .headed) in
+    first-of (p .head .v) 2048 (args .ys .now) (pre .7) (m .vertices)
 
 contents-hit-requires : tie.Need-contents-hit-requires
 contents-hit-requires c κs =
+    let args = c .before .before .before .before .before .before .before .before .before .before .before .before .before .before .args in
+    let page-at = c .before .before .before .before .before .before .before .page-at in
     let st = c .before .before .before .before .before .before .before .before .before .before .before .before .before .before in
-    let k = page-is _ _ _ (c .before .before .before .before .before .before .before .page-at .ensures) in
-    let p = c .before .before .before .before .before .before .before .page-at .result in
-    let m = limits-of (c .before .before .before .before .before .before .before .before .before .before .before .before .before .before .args .c .edition) _ (p .head) (page-is _ _ p (c .before .before .before .before .before .before .before .page-at .ensures) .headed) in (
+    let k = page-is _ _ _ (page-at .ensures) in
+    let p = page-at .result in
+    let m = limits-of (args .c .edition) _ (p .head) (page-is _ _ p (page-at .ensures) .headed) in (
       st .pre .0,
       st .pre .1,
-      omega (arith, page-few _ _ _ (c .before .before .before .before .before .before .before .page-at .ensures), st .pre .2),
+      omega (arith, page-few _ _ _ (page-at .ensures), st .pre .2),
       (st .args .c .edition, rw (part-of (st .args .s .now) (p .body) (p .len)) (k .headed)),
       sym (first-of (p .head .g) 256 (st .args .counts .now) (st .pre .4) (m .few)),
       sym (first-of (p .head .p) 2048 (st .args .lens .now) (st .pre .5) (le-trans (m .parts) (m .vertices))),
@@ -106,10 +127,13 @@ same-length-5 : tie.Need-same-length-5
 same-length-5 c = search needs
 
 returns : tie.Need-returns
-returns c = λ p e.
+returns c =
+    let page-at = c .before .before .before .before .before .before .before .before .before .before .before .before .before .before .before .before .before .before .page-at in
+    let contents-hit = c .before .before .before .before .before .before .before .before .before .before .contents-hit in
+    λ p e.
     let st = c .before .before .before .before .before .before .before .before .before .before .before .before .before .before .before .before .before .before .before .before .before .before .before .before .before in
-    let same : p ≡ c .before .before .before .before .before .before .before .before .before .before .before .before .before .before .before .before .before .before .page-at .result = page-inj (ok-inj (sym e ∙ c .before .before .before .before .before .before .before .before .before .before .before .before .before .before .before .before .before .before .page-at .ensures)) in
-    rw (same, ← part-of (st .args .s .now) (c .before .before .before .before .before .before .before .before .before .before .before .before .before .before .before .before .before .before .page-at .result .body) (c .before .before .before .before .before .before .before .before .before .before .before .before .before .before .before .before .before .before .page-at .result .len)) (c .before .before .before .before .before .before .before .before .before .before .contents-hit .ensures)
+    let same : p ≡ page-at .result = page-inj (ok-inj (sym e ∙ page-at .ensures)) in
+    rw (same, ← part-of (st .args .s .now) (page-at .result .body) (page-at .result .len)) (contents-hit .ensures)
 
 pub page-hits-spec : {M : Type 1} → statement M
 page-hits-spec =

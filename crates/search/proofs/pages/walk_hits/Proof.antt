@@ -45,12 +45,15 @@ at-end-requires c κs = ahead-turn _ _ _ (c .loop .inv .0 .ahead)
 
 page-hits-requires : tie.Need-page-hits-requires Inv-loop μ-loop
 page-hits-requires c κs =
+    let loop = c .before .before .before .before .before .before .before .loop in
+    let at-end = c .before .before .before .before .before .before .at-end in
+    let if1 = c .before .before .before .before .before .if1 in
     let st = c .before .before .before .before .before .before .before .before .before .before .before .before .before .before .before in
-    let v = c .before .before .before .before .before .before .before .loop .inv in (
+    let v = loop .inv in (
       st .pre .0,
       v .0 .ahead .within .pages,
       v .0 .ahead .within .shapes,
-      ahead-go _ _ _ (c .before .before .before .before .before .before .before .loop .inv .0 .ahead) (sym (c .before .before .before .before .before .before .at-end .ensures) ∙ not-true _ (c .before .before .before .before .before .if1 .taken)),
+      ahead-go _ _ _ (loop .inv .0 .ahead) (sym (at-end .ensures) ∙ not-true _ (if1 .taken)),
       v .2 ∙ st .pre .3,
       v .3 ∙ st .pre .4,
       v .4 ∙ st .pre .5,
@@ -62,65 +65,106 @@ enum-known-n c = search needs
 
 add-found : tie.Need-add-found Inv-loop μ-loop
 add-found c =
-    let p = ahead-go _ _ _ (c .before .before .before .before .before .before .before .before .before .before .before .before .before .before .before .before .before .before .before .before .before .loop .inv .0 .ahead) (sym (c .before .before .before .before .before .before .before .before .before .before .before .before .before .before .before .before .before .before .before .before .at-end .ensures) ∙ not-true _ (c .before .before .before .before .before .before .before .before .before .before .before .before .before .before .before .before .before .before .before .if1 .taken)) in
+    let args = c .before .before .before .before .before .before .before .before .before .before .before .before .before .before .before .before .before .before .before .before .before .before .before .before .before .before .before .before .before .args in
+    let loop = c .before .before .before .before .before .before .before .before .before .before .before .before .before .before .before .before .before .before .before .before .before .loop in
+    let at-end = c .before .before .before .before .before .before .before .before .before .before .before .before .before .before .before .before .before .before .before .before .at-end in
+    let if1 = c .before .before .before .before .before .before .before .before .before .before .before .before .before .before .before .before .before .before .before .if1 in
+    let page-hits = c .before .before .before .before .before .before .before .before .before .before .before .before .before .page-hits in
+    let p = ahead-go _ _ _ (loop .inv .0 .ahead) (sym (at-end .ensures) ∙ not-true _ (if1 .taken)) in
     let n = c .before .n .given in
-    omega (arith, meeting-fits (c .before .before .before .before .before .before .before .before .before .before .before .before .before .before .before .before .before .before .before .before .before .before .before .before .before .before .before .before .before .args .a) (c .before .before .before .before .before .before .before .before .before .before .before .before .before .before .before .before .before .before .before .before .before .before .before .before .before .before .before .before .before .args .s .now) (c .before .before .before .before .before .before .before .before .before .before .before .before .before .before .before .before .before .before .before .before .before .before .before .before .before .before .before .before .before .args .flags .now) (c .before .before .before .before .before .before .before .before .before .before .before .before .before .before .before .before .before .before .before .before .before .loop .c) (c .before .before .before .before .before .before .before .before .before .before .before .before .before .before .before .before .before .before .before .before .before .loop .found) (c .before .before .before .before .before .before .before .before .before .before .before .before .before .before .before .before .before .before .before .before .before .loop .flags) (c .before .before .before .before .before .before .before .before .before .before .before .before .before .before .before .before .before .before .before .before .before .loop .inv .0) (p .0) (p .1) _ _ (opened-meets (c .before .before .before .before .before .before .before .before .before .before .before .before .before .before .before .before .before .before .before .before .before .before .before .before .before .before .before .before .before .args .a) (c .before .before .before .before .before .before .before .before .before .before .before .before .before .before .before .before .before .before .before .before .before .loop .c .pages) (c .before .before .before .before .before .before .before .before .before .before .before .before .before .before .before .before .before .before .before .before .before .loop .c .shapes) _ _ _ (c .before .before .before .before .before .before .before .before .before .before .before .before .before .before .before .before .before .before .before .before .before .loop .inv .1 (p .0) (p .1)) (c .before .before .before .before .before .before .before .before .before .before .before .before .before .page-hits .ensures (p .0) (p .1))) (n .0 .0) (n .1))
+    omega (arith, meeting-fits (args .a) (args .s .now) (args .flags .now) (loop .c) (loop .found) (loop .flags) (loop .inv .0) (p .0) (p .1) _ _ (opened-meets (args .a) (loop .c .pages) (loop .c .shapes) _ _ _ (loop .inv .1 (p .0) (p .1)) (page-hits .ensures (p .0) (p .1))) (n .0 .0) (n .1))
 
 glance-requires : tie.Need-glance-requires Inv-loop μ-loop
-glance-requires c κs = (c .before .before .before .before .before .before .before .before .before .before .before .before .before .before .before .before .before .before .before .before .before .loop .inv .0 .ahead .within .shapes, ahead-go _ _ _ (c .before .before .before .before .before .before .before .before .before .before .before .before .before .before .before .before .before .before .before .before .before .loop .inv .0 .ahead) (sym (c .before .before .before .before .before .before .before .before .before .before .before .before .before .before .before .before .before .before .before .before .at-end .ensures) ∙ not-true _ (c .before .before .before .before .before .before .before .before .before .before .before .before .before .before .before .before .before .before .before .if1 .taken)))
+glance-requires c κs =
+    let loop = c .before .before .before .before .before .before .before .before .before .before .before .before .before .before .before .before .before .before .before .before .before .loop in
+    let at-end = c .before .before .before .before .before .before .before .before .before .before .before .before .before .before .before .before .before .before .before .before .at-end in
+    let if1 = c .before .before .before .before .before .before .before .before .before .before .before .before .before .before .before .before .before .before .before .if1 in
+    (loop .inv .0 .ahead .within .shapes, ahead-go _ _ _ (loop .inv .0 .ahead) (sym (at-end .ensures) ∙ not-true _ (if1 .taken)))
 
 next-met-requires-2 : tie.Need-next-met-requires-2 Inv-loop μ-loop
 next-met-requires-2 c κs =
+    let pre = c .before .before .before .before .before .before .before .before .before .before .before .before .before .before .before .before .before .before .before .before .before .before .before .before .before .before .before .before .before .before .pre in
+    let loop = c .before .before .before .before .before .before .before .before .before .before .before .before .before .before .before .before .before .before .before .before .before .before .loop in
     let p = c .glance .ensures in
-    let r = ahead-page _ _ _ (c .before .before .before .before .before .before .before .before .before .before .before .before .before .before .before .before .before .before .before .before .before .before .loop .inv .0 .ahead) (p .0) (p .1) in
-    (c .before .before .before .before .before .before .before .before .before .before .before .before .before .before .before .before .before .before .before .before .before .before .before .before .before .before .before .before .before .before .pre .0, (r .0, rw (ap (λ (x : Glance). x .next) (p .2)) (r .2)))
+    let r = ahead-page _ _ _ (loop .inv .0 .ahead) (p .0) (p .1) in
+    (pre .0, (r .0, rw (ap (λ (x : Glance). x .next) (p .2)) (r .2)))
 
 loop-less : tie.Need-loop-less Inv-loop μ-loop
 loop-less c =
+    let args = c .before .before .before .before .before .before .before .before .before .before .before .before .before .before .before .before .before .before .before .before .before .before .before .before .before .before .before .before .before .before .before .args in
+    let loop = c .before .before .before .before .before .before .before .before .before .before .before .before .before .before .before .before .before .before .before .before .before .before .before .loop in
     let p = c .before .glance .ensures in
     let k = c .next-met2 .ensures .skipping .onward in
     let q = ap (λ (x : Glance). x .next .pages) (p .2) in
-    let l = meeting-fewer (c .before .before .before .before .before .before .before .before .before .before .before .before .before .before .before .before .before .before .before .before .before .before .before .before .before .before .before .before .before .before .before .args .a) (c .before .before .before .before .before .before .before .before .before .before .before .before .before .before .before .before .before .before .before .before .before .before .before .before .before .before .before .before .before .before .before .args .s .now) (c .before .before .before .before .before .before .before .before .before .before .before .before .before .before .before .before .before .before .before .before .before .before .before .before .before .before .before .before .before .before .before .args .flags .now) (c .before .before .before .before .before .before .before .before .before .before .before .before .before .before .before .before .before .before .before .before .before .before .before .loop .c) (c .before .before .before .before .before .before .before .before .before .before .before .before .before .before .before .before .before .before .before .before .before .before .before .loop .found) (c .before .before .before .before .before .before .before .before .before .before .before .before .before .before .before .before .before .before .before .before .before .before .before .loop .flags) (c .before .before .before .before .before .before .before .before .before .before .before .before .before .before .before .before .before .before .before .before .before .before .before .loop .inv .0) (p .0) (p .1) in
+    let l = meeting-fewer (args .a) (args .s .now) (args .flags .now) (loop .c) (loop .found) (loop .flags) (loop .inv .0) (p .0) (p .1) in
     omega (arith, k, q, l)
 
 loop-again : tie.Need-loop-again Inv-loop μ-loop
 loop-again c =
+    let args = c .before .before .before .before .before .before .before .before .before .before .before .before .before .before .before .before .before .before .before .before .before .before .before .before .before .before .before .before .before .before .before .args in
+    let loop = c .before .before .before .before .before .before .before .before .before .before .before .before .before .before .before .before .before .before .before .before .before .before .before .loop in
+    let page-hits = c .before .before .before .before .before .before .before .before .before .before .before .before .before .before .before .page-hits in
+    let counts = c .before .before .before .before .before .before .before .before .before .before .before .before .before .before .counts in
+    let lens = c .before .before .before .before .before .before .before .before .before .before .before .before .lens in
+    let xs = c .before .before .before .before .before .before .before .before .before .before .xs in
+    let ys = c .before .before .before .before .before .before .before .before .ys in
+    let flags = c .before .before .before .before .before .before .flags in
     let p = c .before .glance .ensures in
     let n = c .before .before .before .n .given in
-    let v = c .before .before .before .before .before .before .before .before .before .before .before .before .before .before .before .before .before .before .before .before .before .before .before .loop .inv in
+    let v = loop .inv in
     let k = c .next-met2 .ensures in
-    let more = meeting-more (c .before .before .before .before .before .before .before .before .before .before .before .before .before .before .before .before .before .before .before .before .before .before .before .before .before .before .before .before .before .before .before .args .a) (c .before .before .before .before .before .before .before .before .before .before .before .before .before .before .before .before .before .before .before .before .before .before .before .before .before .before .before .before .before .before .before .args .s .now) (c .before .before .before .before .before .before .before .before .before .before .before .before .before .before .before .before .before .before .before .before .before .before .before .before .before .before .before .before .before .before .before .args .flags .now) (c .before .before .before .before .before .before .before .before .before .before .before .before .before .before .before .before .before .before .before .before .before .before .before .loop .c) (c .before .before .before .before .before .before .before .before .before .before .before .before .before .before .before .before .before .before .before .before .before .before .before .loop .found) (c .before .before .before .before .before .before .before .before .before .before .before .before .before .before .before .before .before .before .before .before .before .before .before .loop .flags) (c .before .before .before .before .before .before .before .before .before .before .before .before .before .before .before .before .before .before .before .before .before .before .before .loop .inv .0) (p .0) (p .1) _ _ (opened-meets (c .before .before .before .before .before .before .before .before .before .before .before .before .before .before .before .before .before .before .before .before .before .before .before .before .before .before .before .before .before .before .before .args .a) (c .before .before .before .before .before .before .before .before .before .before .before .before .before .before .before .before .before .before .before .before .before .before .before .loop .c .pages) (c .before .before .before .before .before .before .before .before .before .before .before .before .before .before .before .before .before .before .before .before .before .before .before .loop .c .shapes) _ _ _ (c .before .before .before .before .before .before .before .before .before .before .before .before .before .before .before .before .before .before .before .before .before .before .before .loop .inv .1 (p .0) (p .1)) (c .before .before .before .before .before .before .before .before .before .before .before .before .before .before .before .page-hits .ensures (p .0) (p .1))) (n .0 .0) (n .1) (c .before .before .before .before .before .before .flags .given) in (
+    let more = meeting-more (args .a) (args .s .now) (args .flags .now) (loop .c) (loop .found) (loop .flags) (loop .inv .0) (p .0) (p .1) _ _ (opened-meets (args .a) (loop .c .pages) (loop .c .shapes) _ _ _ (loop .inv .1 (p .0) (p .1)) (page-hits .ensures (p .0) (p .1))) (n .0 .0) (n .1) (flags .given) in (
       meeting-skip _ _ _ _ _ _ _ (rw (ap (λ (x : Glance). x .next) (p .2)) more) (k .skipping),
       k .opened,
-      c .before .before .before .before .before .before .before .before .before .before .before .before .before .before .counts .given ∙ v .2,
-      c .before .before .before .before .before .before .before .before .before .before .before .before .lens .given ∙ v .3,
-      c .before .before .before .before .before .before .before .before .before .before .xs .given ∙ v .4,
-      c .before .before .before .before .before .before .before .before .ys .given ∙ v .5,
+      counts .given ∙ v .2,
+      lens .given ∙ v .3,
+      xs .given ∙ v .4,
+      ys .given ∙ v .5,
     )
 
 enum-known-w : tie.Need-enum-known-w Inv-loop μ-loop
 enum-known-w c = search needs
 
 same-length : tie.Need-same-length Inv-loop μ-loop
-same-length c = c .before .before .before .before .before .before .before .before .before .before .before .before .counts .given ∙ c .before .before .before .before .before .before .before .before .before .before .before .before .before .before .before .before .before .before .before .before .before .loop .inv .2
+same-length c =
+    let loop = c .before .before .before .before .before .before .before .before .before .before .before .before .before .before .before .before .before .before .before .before .before .loop in
+    let counts = c .before .before .before .before .before .before .before .before .before .before .before .before .counts in
+    counts .given ∙ loop .inv .2
 
 same-length-2 : tie.Need-same-length-2 Inv-loop μ-loop
-same-length-2 c = c .before .before .before .before .before .before .before .before .before .before .lens .given ∙ c .before .before .before .before .before .before .before .before .before .before .before .before .before .before .before .before .before .before .before .before .before .loop .inv .3
+same-length-2 c =
+    let loop = c .before .before .before .before .before .before .before .before .before .before .before .before .before .before .before .before .before .before .before .before .before .loop in
+    let lens = c .before .before .before .before .before .before .before .before .before .before .lens in
+    lens .given ∙ loop .inv .3
 
 same-length-3 : tie.Need-same-length-3 Inv-loop μ-loop
-same-length-3 c = c .before .before .before .before .before .before .before .before .xs .given ∙ c .before .before .before .before .before .before .before .before .before .before .before .before .before .before .before .before .before .before .before .before .before .loop .inv .4
+same-length-3 c =
+    let loop = c .before .before .before .before .before .before .before .before .before .before .before .before .before .before .before .before .before .before .before .before .before .loop in
+    let xs = c .before .before .before .before .before .before .before .before .xs in
+    xs .given ∙ loop .inv .4
 
 same-length-4 : tie.Need-same-length-4 Inv-loop μ-loop
-same-length-4 c = c .before .before .before .before .before .before .ys .given ∙ c .before .before .before .before .before .before .before .before .before .before .before .before .before .before .before .before .before .before .before .before .before .loop .inv .5
+same-length-4 c =
+    let loop = c .before .before .before .before .before .before .before .before .before .before .before .before .before .before .before .before .before .before .before .before .before .loop in
+    let ys = c .before .before .before .before .before .before .ys in
+    ys .given ∙ loop .inv .5
 
 same-length-5 : tie.Need-same-length-5 Inv-loop μ-loop
-same-length-5 c = c .before .before .before .before .flags .given ∙ c .before .before .before .before .before .before .before .before .before .before .before .before .before .before .before .before .before .before .before .before .before .loop .inv .0 .long
+same-length-5 c =
+    let loop = c .before .before .before .before .before .before .before .before .before .before .before .before .before .before .before .before .before .before .before .before .before .loop in
+    let flags = c .before .before .before .before .flags in
+    flags .given ∙ loop .inv .0 .long
 
 returns : tie.Need-returns Inv-loop μ-loop
 returns c =
-    let p = ahead-go _ _ _ (c .before .before .before .before .before .before .before .before .before .before .before .before .before .before .before .before .before .before .before .before .before .loop .inv .0 .ahead) (sym (c .before .before .before .before .before .before .before .before .before .before .before .before .before .before .before .before .before .before .before .before .at-end .ensures) ∙ not-true _ (c .before .before .before .before .before .before .before .before .before .before .before .before .before .before .before .before .before .before .before .if1 .taken)) in
+    let args = c .before .before .before .before .before .before .before .before .before .before .before .before .before .before .before .before .before .before .before .before .before .before .before .before .before .before .before .before .before .args in
+    let loop = c .before .before .before .before .before .before .before .before .before .before .before .before .before .before .before .before .before .before .before .before .before .loop in
+    let at-end = c .before .before .before .before .before .before .before .before .before .before .before .before .before .before .before .before .before .before .before .before .at-end in
+    let if1 = c .before .before .before .before .before .before .before .before .before .before .before .before .before .before .before .before .before .before .before .if1 in
+    let page-hits = c .before .before .before .before .before .before .before .before .before .before .before .before .before .page-hits in
+    let p = ahead-go _ _ _ (loop .inv .0 .ahead) (sym (at-end .ensures) ∙ not-true _ (if1 .taken)) in
     let w = c .before .w .given in
-    meeting-refused (c .before .before .before .before .before .before .before .before .before .before .before .before .before .before .before .before .before .before .before .before .before .before .before .before .before .before .before .before .before .args .a) (c .before .before .before .before .before .before .before .before .before .before .before .before .before .before .before .before .before .before .before .before .before .before .before .before .before .before .before .before .before .args .s .now) (c .before .before .before .before .before .before .before .before .before .before .before .before .before .before .before .before .before .before .before .before .before .before .before .before .before .before .before .before .before .args .flags .now) (c .before .before .before .before .before .before .before .before .before .before .before .before .before .before .before .before .before .before .before .before .before .loop .c) (c .before .before .before .before .before .before .before .before .before .before .before .before .before .before .before .before .before .before .before .before .before .loop .found) (c .before .before .before .before .before .before .before .before .before .before .before .before .before .before .before .before .before .before .before .before .before .loop .flags) (c .before .before .before .before .before .before .before .before .before .before .before .before .before .before .before .before .before .before .before .before .before .loop .inv .0) (p .0) (p .1) _ _ (opened-meets (c .before .before .before .before .before .before .before .before .before .before .before .before .before .before .before .before .before .before .before .before .before .before .before .before .before .before .before .before .before .args .a) (c .before .before .before .before .before .before .before .before .before .before .before .before .before .before .before .before .before .before .before .before .before .loop .c .pages) (c .before .before .before .before .before .before .before .before .before .before .before .before .before .before .before .before .before .before .before .before .before .loop .c .shapes) _ _ _ (c .before .before .before .before .before .before .before .before .before .before .before .before .before .before .before .before .before .before .before .before .before .loop .inv .1 (p .0) (p .1)) (c .before .before .before .before .before .before .before .before .before .before .before .before .before .page-hits .ensures (p .0) (p .1))) (w .0 .0) (w .1)
+    meeting-refused (args .a) (args .s .now) (args .flags .now) (loop .c) (loop .found) (loop .flags) (loop .inv .0) (p .0) (p .1) _ _ (opened-meets (args .a) (loop .c .pages) (loop .c .shapes) _ _ _ (loop .inv .1 (p .0) (p .1)) (page-hits .ensures (p .0) (p .1))) (w .0 .0) (w .1)
 
 same-length-6 : tie.Need-same-length-6 Inv-loop μ-loop
 same-length-6 c = c .before .before .loop .inv .2
@@ -138,7 +182,10 @@ same-length-10 : tie.Need-same-length-10 Inv-loop μ-loop
 same-length-10 c = c .before .before .loop .inv .0 .long
 
 returns-2 : tie.Need-returns-2 Inv-loop μ-loop
-returns-2 c = meeting-end (c .before .before .before .before .before .before .before .before .before .before .args .a) (c .before .before .before .before .before .before .before .before .before .before .args .s .now) (c .before .before .before .before .before .before .before .before .before .before .args .flags .now) (c .before .before .loop .c) (c .before .before .loop .found) (c .before .before .loop .flags) (c .before .before .loop .inv .0) (ahead-stop _ _ _ (c .before .before .loop .inv .0 .ahead) (sym (c .before .at-end .ensures) ∙ not-false _ (c .if1 .left)))
+returns-2 c =
+    let args = c .before .before .before .before .before .before .before .before .before .before .args in
+    let loop = c .before .before .loop in
+    meeting-end (args .a) (args .s .now) (args .flags .now) (loop .c) (loop .found) (loop .flags) (loop .inv .0) (ahead-stop _ _ _ (loop .inv .0 .ahead) (sym (c .before .at-end .ensures) ∙ not-false _ (c .if1 .left)))
 
 pub walk-hits-spec : {M : Type 1} → statement M
 walk-hits-spec =

@@ -50,10 +50,13 @@ same-length c = search needs
 
 returns-3 : tie.Need-returns-3
 returns-3 c =
+    let hits-of = c .before .before .before .before .before .before .before .before .before .before .hits-of in
+    let n′ = c .before .before .before .before .before .before .before .n in
+    let if1 = c .before .before .before .before .before .if1 in
     let a = c .before .before .before .before .before .before .before .before .before .before .before .before .before .before .args in
-    let n = c .before .before .before .before .before .before .before .n .given in
-    let w = noted (a .a) (a .s .now) _ _ _ (n .0 .0) (c .before .before .before .before .before .before .before .before .before .before .hits-of .ensures) (n .1) (number-zeros 32768) (length-replicate {A = ℕ} 32768 0) in
-    search-lists (a .a) (a .s .now) _ (n .0 .0) w (a .out .now) _ (c .before .before .before .before .before .if1 .left) (c .before .before .list-flags .ensures)
+    let n = n′ .given in
+    let w = noted (a .a) (a .s .now) _ _ _ (n .0 .0) (hits-of .ensures) (n .1) (number-zeros 32768) (length-replicate {A = ℕ} 32768 0) in
+    search-lists (a .a) (a .s .now) _ (n .0 .0) w (a .out .now) _ (if1 .left) (c .before .before .list-flags .ensures)
 
 pub search-spec : {M : Type 1} → statement M
 search-spec =

@@ -19,7 +19,9 @@ box-of-requires : tie.Need-box-of-requires
 box-of-requires c κs = search needs
 
 same-value-requires : tie.Need-same-value-requires
-same-value-requires c κs = let s = c .before .before .before .before in (s .pre .0, subst FiniteBox (sym (c .box-of .ensures)) (box-finite (s .args .xs .now) (s .args .ys .now) (omega arith) (omega (arith, s .pre .1)) (s .pre .2) (s .pre .3)))
+same-value-requires c κs =
+    let s = c .before .before .before .before in
+    (s .pre .0, subst FiniteBox (sym (c .box-of .ensures)) (box-finite (s .args .xs .now) (s .args .ys .now) (omega arith) (omega (arith, s .pre .1)) (s .pre .2) (s .pre .3)))
 
 returns-2 : tie.Need-returns-2
 unfolding boxHolds

@@ -123,25 +123,30 @@ part-shape-holds-end-3 c = omega (arith, there (c .before .before .before), c .b
 
 shape-holds-requires : tie.Need-shape-holds-requires Inv-loop μ-loop
 shape-holds-requires c κs =
+    let pre = c .before .before .before .before .before .before .before .before .before .before .before .before .before .before .pre in
+    let loop-test = c .before .before .before .before .before .before .before .loop-test in
+    let total′ = c .before .before .before .before .total in
     let a = c .before .before .before .before .before .before .before .before .before .before .before .before .before .before .args in
     let l = c .before .before .before .before .before .before .before .before .loop in
-    let t = c .before .before .before .before .before .before .before .loop-test .taken in
+    let t = loop-test .taken in
     let e = l .k + getD (a .counts .now) (l .i) 0 in
-    let end = l .at + c .before .before .before .before .total .result in
-    let g = ap (λ (n : ℕ). l .at + n) (c .before .before .before .before .total .ensures) in (
+    let end = l .at + total′ .result in
+    let g = ap (λ (n : ℕ). l .at + n) (total′ .ensures) in (
       walking-table (a .types .now) (a .counts .now) (a .lens .now) (a .xs .now) (a .ys .now) (l .i) (l .k) (l .at) (l .inv .0) t .known,
       walking-cut (a .types .now) (a .counts .now) (a .lens .now) (a .xs .now) (a .ys .now) (l .i) (l .k) (l .at) (l .inv .0) t e end refl g,
-      all-here (readyFor (a .w)) (outlinesOf (a .types .now) (a .counts .now) (a .lens .now) (a .xs .now) (a .ys .now)) (l .i) _ (walking-stands (a .types .now) (a .counts .now) (a .lens .now) (a .xs .now) (a .ys .now) (l .i) (l .k) (l .at) (l .inv .0) t e end refl g) (c .before .before .before .before .before .before .before .before .before .before .before .before .before .before .pre .2),
+      all-here (readyFor (a .w)) (outlinesOf (a .types .now) (a .counts .now) (a .lens .now) (a .xs .now) (a .ys .now)) (l .i) _ (walking-stands (a .types .now) (a .counts .now) (a .lens .now) (a .xs .now) (a .ys .now) (l .i) (l .k) (l .at) (l .inv .0) t e end refl g) (pre .2),
     )
 
 returns : tie.Need-returns Inv-loop μ-loop
 returns c =
+    let loop-test = c .before .before .before .before .before .before .before .before .before .loop-test in
+    let total′ = c .before .before .before .before .before .before .total in
     let a = c .before .before .before .before .before .before .before .before .before .before .before .before .before .before .before .before .args in
     let l = c .before .before .before .before .before .before .before .before .before .before .loop in
-    let t = c .before .before .before .before .before .before .before .before .before .loop-test .taken in
+    let t = loop-test .taken in
     let e = l .k + getD (a .counts .now) (l .i) 0 in
-    let end = l .at + c .before .before .before .before .before .before .total .result in
-    let g = ap (λ (n : ℕ). l .at + n) (c .before .before .before .before .before .before .total .ensures) in
+    let end = l .at + total′ .result in
+    let g = ap (λ (n : ℕ). l .at + n) (total′ .ensures) in
     all-stop (testOf (a .w)) (outlinesOf (a .types .now) (a .counts .now) (a .lens .now) (a .xs .now) (a .ys .now)) (l .i) _ (walking-stands (a .types .now) (a .counts .now) (a .lens .now) (a .xs .now) (a .ys .now) (l .i) (l .k) (l .at) (l .inv .0) t e end refl g) (sym (c .before .shape-holds .ensures) ∙ not-true _ (c .if1 .taken)) (l .inv .1)
 
 add-i : tie.Need-add-i Inv-loop μ-loop
@@ -152,12 +157,14 @@ loop-less c = omega arith
 
 loop-again : tie.Need-loop-again Inv-loop μ-loop
 loop-again c =
+    let loop-test = c .before .before .before .before .before .before .before .before .before .loop-test in
+    let total′ = c .before .before .before .before .before .before .total in
     let a = c .before .before .before .before .before .before .before .before .before .before .before .before .before .before .before .before .args in
     let l = c .before .before .before .before .before .before .before .before .before .before .loop in
-    let t = c .before .before .before .before .before .before .before .before .before .loop-test .taken in
+    let t = loop-test .taken in
     let e = l .k + getD (a .counts .now) (l .i) 0 in
-    let end = l .at + c .before .before .before .before .before .before .total .result in
-    let g = ap (λ (n : ℕ). l .at + n) (c .before .before .before .before .before .before .total .ensures) in (
+    let end = l .at + total′ .result in
+    let g = ap (λ (n : ℕ). l .at + n) (total′ .ensures) in (
       walking-more (a .types .now) (a .counts .now) (a .lens .now) (a .xs .now) (a .ys .now) (l .i) (l .k) (l .at) (l .inv .0) t e end refl g,
       all-more (testOf (a .w)) (outlinesOf (a .types .now) (a .counts .now) (a .lens .now) (a .xs .now) (a .ys .now)) (l .i) _ (walking-stands (a .types .now) (a .counts .now) (a .lens .now) (a .xs .now) (a .ys .now) (l .i) (l .k) (l .at) (l .inv .0) t e end refl g) (sym (c .before .shape-holds .ensures) ∙ not-false _ (c .if1 .left)) (l .inv .1),
     )

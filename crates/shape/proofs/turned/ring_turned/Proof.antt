@@ -16,7 +16,9 @@ no-turn-requires c κs = search needs
 
 returns : tie.Need-returns
 unfolding turnNotZero ringTurn
-returns c = let s = c .before .before .before .before in ap not (c .no-turn .ensures ∙ ap zeroTurn (turn-back (s .args .xs .now) (s .args .ys .now) (c .before .turn .result) (c .before .turn .ensures) (s .pre)))
+returns c =
+    let s = c .before .before .before .before in
+    ap not (c .no-turn .ensures ∙ ap zeroTurn (turn-back (s .args .xs .now) (s .args .ys .now) (c .before .turn .result) (c .before .turn .ensures) (s .pre)))
 
 pub ring-turned-spec : {M : Type 1} → statement M
 ring-turned-spec = tie.close (tie.spec turn-requires no-turn-requires returns)

@@ -37,13 +37,20 @@ cast-n : tie.Need-cast-n
 cast-n c = omega (arith, c .shared-slice-known4 .given 0)
 
 slice-aggregate-turn : tie.Need-slice-aggregate-turn
-slice-aggregate-turn c = let s = c .before .before .before .before .before .before in sym (length-take-le (getD (s .args .lens .now) 0 0) (s .args .xs .now) (there (c .before)))
+slice-aggregate-turn c =
+    let s = c .before .before .before .before .before .before in
+    sym (length-take-le (getD (s .args .lens .now) 0 0) (s .args .xs .now) (there (c .before)))
 
 slice-aggregate-turn-2 : tie.Need-slice-aggregate-turn-2
-slice-aggregate-turn-2 c = let s = c .before .before .before .before .before .before .before in sym (length-take-le (getD (s .args .lens .now) 0 0) (s .args .ys .now) (omega (arith, there (c .before .before), s .pre .0 .same)))
+slice-aggregate-turn-2 c =
+    let s = c .before .before .before .before .before .before .before in
+    sym (length-take-le (getD (s .args .lens .now) 0 0) (s .args .ys .now) (omega (arith, there (c .before .before), s .pre .0 .same)))
 
 turn-requires : tie.Need-turn-requires
-turn-requires c κs = let s = c .before .before .before .before .before .before .before in let g = gridded-part 0 (getD (s .args .lens .now) 0 0) (s .args .xs .now) (s .args .ys .now) (s .pre .1) in (g .same, g .few, g .grid-x, g .grid-y)
+turn-requires c κs =
+    let s = c .before .before .before .before .before .before .before in
+    let g = gridded-part 0 (getD (s .args .lens .now) 0 0) (s .args .xs .now) (s .args .ys .now) (s .pre .1) in
+    (g .same, g .few, g .grid-x, g .grid-y)
 
 clockwise-requires : tie.Need-clockwise-requires
 clockwise-requires c κs = search needs
@@ -73,22 +80,36 @@ mul-all-turned-2 : tie.Need-mul-all-turned-2
 mul-all-turned-2 c = omega (arith, there (c .before .before .before .before .before .before .before))
 
 sub-all-turned-3 : tie.Need-sub-all-turned-3
-sub-all-turned-3 c = omega (arith, there (c .before .before .before .before .before .before .before), c .before .before .before .before .before .before .before .before .before .before .before .before .pre .0 .same)
+sub-all-turned-3 c =
+    let pre = c .before .before .before .before .before .before .before .before .before .before .before .before .pre in
+    let before = c .before .before .before .before .before .before .before in
+    omega (arith, there (before), before .before .before .before .before .before .pre .0 .same)
 
 part-all-turned-start-3 : tie.Need-part-all-turned-start-3
-part-all-turned-start-3 c = omega (arith, there (c .before .before .before .before .before .before .before), c .before .before .before .before .before .before .before .before .before .before .before .before .pre .0 .same)
+part-all-turned-start-3 c =
+    let pre = c .before .before .before .before .before .before .before .before .before .before .before .before .pre in
+    let before = c .before .before .before .before .before .before .before in
+    omega (arith, there (before), before .before .before .before .before .before .pre .0 .same)
 
 part-all-turned-end-3 : tie.Need-part-all-turned-end-3
 part-all-turned-end-3 c = search needs
 
 all-turned-requires : tie.Need-all-turned-requires
-all-turned-requires c κs = let s = c .before .before .before .before .before .before .before .before .before .before .before .before .before in (cut-rest _ _ _ (s .pre .0) (some (c .before .before .before .before .before .before .before .before)), gridded-rest (getD (s .args .lens .now) 0 0) _ _ (s .pre .1))
+all-turned-requires c κs =
+    let s = c .before .before .before .before .before .before .before .before .before .before .before .before .before in
+    (cut-rest _ _ _ (s .pre .0) (some (c .before .before .before .before .before .before .before .before)), gridded-rest (getD (s .args .lens .now) 0 0) _ _ (s .pre .1))
 
 returns-2 : tie.Need-returns-2
-returns-2 c = let s = c .before .before .before .before .before .before .before .before .before .before .before .before .before .before in turned-rest (s .args .lens .now) (s .args .xs .now) (s .args .ys .now) (some (c .before .before .before .before .before .before .before .before .before)) _ (sym (first (c .before .before .before .before .before)) ∙ c .before .before .before .before .if2 .taken) (c .all-turned .ensures)
+returns-2 c =
+    let before = c .before .before .before .before .before .before .before .before .before in
+    let if2 = c .before .before .before .before .if2 in
+    let s = c .before .before .before .before .before .before .before .before .before .before .before .before .before .before in
+    turned-rest (s .args .lens .now) (s .args .xs .now) (s .args .ys .now) (some (before)) _ (sym (first (c .before .before .before .before .before)) ∙ if2 .taken) (c .all-turned .ensures)
 
 returns-3 : tie.Need-returns-3
-returns-3 c = let s = c .before .before .before .before .before .before .before .before .before .before in turned-wrong (s .args .lens .now) (s .args .xs .now) (s .args .ys .now) (some (c .before .before .before .before .before)) (sym (first (c .before)) ∙ c .if2 .left)
+returns-3 c =
+    let s = c .before .before .before .before .before .before .before .before .before .before in
+    turned-wrong (s .args .lens .now) (s .args .xs .now) (s .args .ys .now) (some (c .before .before .before .before .before)) (sym (first (c .before)) ∙ c .if2 .left)
 
 pub rings-turned-spec : {M : Type 1} → statement M
 rings-turned-spec =

@@ -19,7 +19,10 @@ abbrev μ-loop : tie.MeasureT-loop
 -- what is said of the shape at i is said of its parts, the first of those left
 agrees : (c : tie.After-shape-agrees Inv-loop μ-loop)
     → c .shape-agrees .result ≡ shapeAgrees (getD (c .before .before .before .before .before .before .before .before .before .before .args .types .now) (c .before .before .before .before .before .loop .i) 0) (getD (c .before .before .before .before .before .before .before .before .before .before .args .counts .now) (c .before .before .before .before .before .loop .i) 0) (drop (c .before .before .before .before .before .loop .k) (c .before .before .before .before .before .before .before .before .before .before .args .lens .now))
-agrees c = c .shape-agrees .ensures ∙ ap (shapeAgrees _ _) (part-to-end (c .before .before .before .before .before .loop .k) (c .before .before .before .before .before .before .before .before .before .before .args .lens .now))
+agrees c =
+    let args = c .before .before .before .before .before .before .before .before .before .before .args in
+    let loop = c .before .before .before .before .before .loop in
+    c .shape-agrees .ensures ∙ ap (shapeAgrees _ _) (part-to-end (loop .k) (args .lens .now))
 
 returns : tie.Need-returns Inv-loop μ-loop
 returns c = agree-uneven _ _ _ (c .if1 .taken)
@@ -53,18 +56,20 @@ shape-agrees-requires c κs = search needs
 
 returns-2 : tie.Need-returns-2 Inv-loop μ-loop
 returns-2 c =
+    let loop-test = c .before .before .before .before .before .loop-test in
     let l = c .before .before .before .before .before .before .loop in
     let a = c .before .before .before .before .before .before .before .before .before .before .before .args in
-    agreeing-stop (a .types .now) (a .counts .now) (a .lens .now) (l .i) (l .k) (l .inv .1) (l .inv .2) (c .before .before .before .before .before .loop-test .taken) (sym (agrees (c .before)) ∙ not-true _ (c .if2 .taken))
+    agreeing-stop (a .types .now) (a .counts .now) (a .lens .now) (l .i) (l .k) (l .inv .1) (l .inv .2) (loop-test .taken) (sym (agrees (c .before)) ∙ not-true _ (c .if2 .taken))
 
 cast-k : tie.Need-cast-k Inv-loop μ-loop
 cast-k c = omega (arith, c .before .before .before .before .shared-slice-known4 .given (c .before .before .before .before .before .before .loop .i))
 
 add-k : tie.Need-add-k Inv-loop μ-loop
 add-k c =
+    let loop-test = c .before .before .before .before .before .loop-test in
     let l = c .before .before .before .before .before .before .loop in
     let a = c .before .before .before .before .before .before .before .before .before .before .before .args in
-    omega (arith, agreeing-more (a .types .now) (a .counts .now) (a .lens .now) (l .i) (l .k) (l .inv .1) (l .inv .2) (c .before .before .before .before .before .loop-test .taken) (sym (agrees (c .before)) ∙ not-false _ (c .if2 .left)) .passed)
+    omega (arith, agreeing-more (a .types .now) (a .counts .now) (a .lens .now) (l .i) (l .k) (l .inv .1) (l .inv .2) (loop-test .taken) (sym (agrees (c .before)) ∙ not-false _ (c .if2 .left)) .passed)
 
 add-i : tie.Need-add-i Inv-loop μ-loop
 add-i c = omega arith
@@ -74,9 +79,10 @@ loop-less c = omega arith
 
 loop-again : tie.Need-loop-again Inv-loop μ-loop
 loop-again c =
+    let loop-test = c .before .before .before .before .before .loop-test in
     let l = c .before .before .before .before .before .before .loop in
     let a = c .before .before .before .before .before .before .before .before .before .before .before .args in
-    (omega arith, l .inv .1, agreeing-more (a .types .now) (a .counts .now) (a .lens .now) (l .i) (l .k) (l .inv .1) (l .inv .2) (c .before .before .before .before .before .loop-test .taken) (sym (agrees (c .before)) ∙ not-false _ (c .if2 .left)))
+    (omega arith, l .inv .1, agreeing-more (a .types .now) (a .counts .now) (a .lens .now) (l .i) (l .k) (l .inv .1) (l .inv .2) (loop-test .taken) (sym (agrees (c .before)) ∙ not-false _ (c .if2 .left)))
 
 returns-3 : tie.Need-returns-3 Inv-loop μ-loop
 returns-3 c =

@@ -27,7 +27,9 @@ lengths-fit-requires c κs = search needs
 
 returns-3 : tie.Need-returns-3
 unfolding rowAgrees
-returns-3 c = then _ _ _ (sym (c .before .before .before .before .fits2 .ensures) ∙ not-false _ (c .before .before .before .if1 .left)) (then _ _ _ (le-leb _ _ (c .before .before .if2 .left)) (c .lengths-fit .ensures))
+returns-3 c =
+    let fits2 = c .before .before .before .before .fits2 in
+    then _ _ _ (sym (fits2 .ensures) ∙ not-false _ (c .before .before .before .if1 .left)) (then _ _ _ (le-leb _ _ (c .before .before .if2 .left)) (c .lengths-fit .ensures))
 
 pub row-agrees-spec : {M : Type 1} → statement M
 row-agrees-spec =

@@ -35,7 +35,11 @@ same-length : tie.Need-same-length
 same-length c = search needs
 
 returns-2 : tie.Need-returns-2
-returns-2 c = step-refused _ _ _ (c .before .before .before .before .before .before .before .if1 .left) _ (c .before .before .before .before .before .position-of .ensures) _ (c .before .before .before .before .next .ensures) _ _ _ (c .before .before .w .given .1) (c .refusal-word .ensures)
+returns-2 c =
+    let if1 = c .before .before .before .before .before .before .before .if1 in
+    let position-of = c .before .before .before .before .before .position-of in
+    let next = c .before .before .before .before .next in
+    step-refused _ _ _ (if1 .left) _ (position-of .ensures) _ (next .ensures) _ _ _ (c .before .before .w .given .1) (c .refusal-word .ensures)
 
 same-length-2 : tie.Need-same-length-2
 same-length-2 c = search needs
@@ -47,7 +51,12 @@ same-length-3 : tie.Need-same-length-3
 same-length-3 c = search needs
 
 returns-4 : tie.Need-returns-4
-returns-4 c = step-value _ _ _ (c .before .before .before .before .before .before .before .before .before .before .if1 .left) _ (c .before .before .before .before .before .before .before .before .position-of .ensures) _ (c .before .before .before .before .before .before .before .next .ensures) _ _ _ (c .before .before .before .before .before .q .given .1) (c .before .before .put-position .ensures)
+returns-4 c =
+    let if1 = c .before .before .before .before .before .before .before .before .before .before .if1 in
+    let position-of = c .before .before .before .before .before .before .before .before .position-of in
+    let next = c .before .before .before .before .before .before .before .next in
+    let q = c .before .before .before .before .before .q in
+    step-value _ _ _ (if1 .left) _ (position-of .ensures) _ (next .ensures) _ _ _ (q .given .1) (c .before .before .put-position .ensures)
 
 pub boundary-column-step-spec : {M : Type 1} → statement M
 boundary-column-step-spec =

@@ -32,10 +32,17 @@ returns : tie.Need-returns
 returns c = word-unasked _ _ _ (c .before .before .before .before .ask-of .ensures) _ _ (c .before .before .w .given .1) (c .refusal-word .ensures)
 
 returns-2 : tie.Need-returns-2
-returns-2 c = word-hits _ _ _ (c .before .before .before .before .before .before .before .ask-of .ensures) _ (c .before .before .before .before .before .a .given .1) _ (c .before .before .before .count .ensures) _ (c .before .n .given .1)
+returns-2 c =
+    let ask-of = c .before .before .before .before .before .before .before .ask-of in
+    let a = c .before .before .before .before .before .a in
+    word-hits _ _ _ (ask-of .ensures) _ (a .given .1) _ (c .before .before .before .count .ensures) _ (c .before .n .given .1)
 
 returns-3 : tie.Need-returns-3
-returns-3 c = word-uncounted _ _ _ (c .before .before .before .before .before .before .before .before .ask-of .ensures) _ (c .before .before .before .before .before .before .a .given .1) _ (c .before .before .before .before .count .ensures) _ _ (c .before .before .w2 .given .1) (c .refusal-word2 .ensures)
+returns-3 c =
+    let ask-of = c .before .before .before .before .before .before .before .before .ask-of in
+    let a = c .before .before .before .before .before .before .a in
+    let count′ = c .before .before .before .before .count in
+    word-uncounted _ _ _ (ask-of .ensures) _ (a .given .1) _ (count′ .ensures) _ _ (c .before .before .w2 .given .1) (c .refusal-word2 .ensures)
 
 pub boundary-count-spec : {M : Type 1} → statement M
 boundary-count-spec =

@@ -29,7 +29,10 @@ same-length : tie.Need-same-length
 same-length c = search needs
 
 returns-2 : tie.Need-returns-2
-returns-2 c = search-asked _ _ _ _ (c .before .before .before .before .before .before .before .before .ask-of .ensures) _ _ _ _ (c .before .before .before .before .before .before .a .given .1) (c .before .before .before .search .ensures) (c .filled-word .ensures)
+returns-2 c =
+    let ask-of = c .before .before .before .before .before .before .before .before .ask-of in
+    let a = c .before .before .before .before .before .before .a in
+    search-asked _ _ _ _ (ask-of .ensures) _ _ _ _ (a .given .1) (c .before .before .before .search .ensures) (c .filled-word .ensures)
 
 pub boundary-search-spec : {M : Type 1} → statement M
 boundary-search-spec =

@@ -42,8 +42,10 @@ same-length-3 c = search needs
 
 returns-2 : tie.Need-returns-2
 returns-2 c =
-    let h = c .before .before .before .before .before .before .before .before .before .before .before .before .before .before .if1 .left in
-    shown-unfound _ _ _ _ _ _ h _ _ _ _ (c .before .before .before .before .before .before .before .before .before .before .fetch .ensures) _ _ (c .before .before .w .given .1) (c .refusal-word .ensures)
+    let if1 = c .before .before .before .before .before .before .before .before .before .before .before .before .before .before .if1 in
+    let fetch = c .before .before .before .before .before .before .before .before .before .before .fetch in
+    let h = if1 .left in
+    shown-unfound _ _ _ _ _ _ h _ _ _ _ (fetch .ensures) _ _ (c .before .before .w .given .1) (c .refusal-word .ensures)
 
 same-length-4 : tie.Need-same-length-4
 same-length-4 c = search needs
@@ -59,8 +61,11 @@ same-length-7 c = search needs
 
 returns-3 : tie.Need-returns-3
 returns-3 c =
-    let h = c .before .before .before .before .before .before .before .before .before .before .before .before .before .before .before .before .before .if1 .left in
-    shown-found _ _ _ _ _ _ h _ _ _ _ (c .before .before .before .before .before .before .before .before .before .before .before .before .before .fetch .ensures) _ _ (c .before .before .before .before .before .f .given .1) (c .before .before .put-about .ensures)
+    let if1 = c .before .before .before .before .before .before .before .before .before .before .before .before .before .before .before .before .before .if1 in
+    let fetch = c .before .before .before .before .before .before .before .before .before .before .before .before .before .fetch in
+    let f = c .before .before .before .before .before .f in
+    let h = if1 .left in
+    shown-found _ _ _ _ _ _ h _ _ _ _ (fetch .ensures) _ _ (f .given .1) (c .before .before .put-about .ensures)
 
 pub boundary-fetch-spec : {M : Type 1} → statement M
 boundary-fetch-spec =

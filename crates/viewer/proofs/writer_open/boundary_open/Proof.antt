@@ -26,7 +26,10 @@ same-length-2 : tie.Need-same-length-2
 same-length-2 c = search needs
 
 returns-2 : tie.Need-returns-2
-returns-2 c = kept-step _ _ _ _ _ _ _ _ _ (open-step _ _ (c .before .before .before .before .before .before .before .before .before .before .if1 .left)) (c .before .before .before .before .before .«open» .ensures) (c .before .before .hand-back .ensures)
+returns-2 c =
+    let if1 = c .before .before .before .before .before .before .before .before .before .before .if1 in
+    let before = c .before .before .before .before .before in
+    kept-step _ _ _ _ _ _ _ _ _ (open-step _ _ (if1 .left)) (before .«open» .ensures) (c .before .before .hand-back .ensures)
 
 pub boundary-open-spec : {M : Type 1} → statement M
 boundary-open-spec =

@@ -26,7 +26,11 @@ same-length-2 : tie.Need-same-length-2
 same-length-2 c = search needs
 
 returns-2 : tie.Need-returns-2
-returns-2 c = kept-step _ _ _ _ _ _ _ _ _ (page-step _ _ (c .before .before .before .before .before .before .before .before .before .before .if1 .left) _ _ (c .before .before .before .before .before .before .before .before .state-of .ensures)) (c .before .before .before .before .before .page .ensures) (c .before .before .hand-back .ensures)
+returns-2 c =
+    let if1 = c .before .before .before .before .before .before .before .before .before .before .if1 in
+    let state-of = c .before .before .before .before .before .before .before .before .state-of in
+    let page = c .before .before .before .before .before .page in
+    kept-step _ _ _ _ _ _ _ _ _ (page-step _ _ (if1 .left) _ _ (state-of .ensures)) (page .ensures) (c .before .before .hand-back .ensures)
 
 pub boundary-page-spec : {M : Type 1} → statement M
 boundary-page-spec =

@@ -23,7 +23,11 @@ same-length : tie.Need-same-length
 same-length c = search needs
 
 returns : tie.Need-returns
-returns c = let a = c .before .before .before .before .before .before .before .before .before .before .before .before .before .args in end-put (a .pages) (a .shapes) (a .at) (a .d .now) _ _ _ (c .before .before .before .before .before .before .before .before .before .before .put-head .ensures) (c .before .before .before .before .before .before .put-u32 .ensures) (c .before .before .put-u322 .ensures)
+returns c =
+    let put-head = c .before .before .before .before .before .before .before .before .before .before .put-head in
+    let put-u32 = c .before .before .before .before .before .before .put-u32 in
+    let a = c .before .before .before .before .before .before .before .before .before .before .before .before .before .args in
+    end-put (a .pages) (a .shapes) (a .at) (a .d .now) _ _ _ (put-head .ensures) (put-u32 .ensures) (c .before .before .put-u322 .ensures)
 
 pub put-end-spec : {M : Type 1} → statement M
 put-end-spec =

@@ -14,7 +14,10 @@ same-length : tie.Need-same-length
 same-length c = search needs
 
 returns : tie.Need-returns
-returns c = first-put (c .before .before .before .before .before .before .before .before .before .args .d .now) _ _ (c .before .before .before .before .before .before .put-head .ensures) (c .before .before .put-u16 .ensures)
+returns c =
+    let args = c .before .before .before .before .before .before .before .before .before .args in
+    let put-head = c .before .before .before .before .before .before .put-head in
+    first-put (args .d .now) _ _ (put-head .ensures) (c .before .before .put-u16 .ensures)
 
 pub put-first-spec : {M : Type 1} → statement M
 put-first-spec = tie.close (tie.spec put-head-requires put-u16-requires same-length returns)
