@@ -19,6 +19,13 @@ def read(path):
         return f.read()
 
 
+def write(path, text):
+    """Puts a text in a file."""
+    os.makedirs(os.path.dirname(path), exist_ok=True)
+    with open(path, "w", encoding="utf-8") as f:
+        f.write(text)
+
+
 def imports():
     """The line of each crate in crates.txt, in that order."""
     lines = [line.split("#")[0].strip() for line in read(f"{ROOT}/crates.txt").split("\n")]
@@ -49,6 +56,20 @@ def versions(folder):
         names = sorted(os.listdir(home)) if os.path.isdir(home) else []
         found += [version(crate, folder, name[:-5]) for name in names if name.endswith(".edit")]
     return found
+
+
+def applied(one, crates):
+    """Makes a version's replacements in a copy of the crates. Gives what the files held before, and whether each old text stood there exactly once; where one did not, it
+    and those after it are left."""
+    held = {}
+    for change in one.changes:
+        path = f"{crates}/{one.crate}/{change.file}"
+        text = read(path)
+        held.setdefault(path, text)
+        if not change.old or text.count(change.old) != 1:
+            return held, False
+        write(path, text.replace(change.old, change.new))
+    return held, bool(one.changes)
 
 
 def body_around(text, old):

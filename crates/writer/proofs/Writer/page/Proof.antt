@@ -61,14 +61,15 @@ enum-known-n c = search needs
 
 add-t23 : tie.Need-add-t23
 add-t23 c =
-    let if1 = c .before .before .before .before .before .before .before .before .before .before .if1 in
+    let a = c .before .before .before .before .before .before .before .before .before .before .before .before .before .before .before .before .before .before .args in
+    let w = c .before .n .given in
+    let p =
+    (let if1 = c .before .before .before .before .before .before .before .before .before .before .if1 in
     let if2 = c .before .before .before .before .before .before .before .before .before .if2 in
     let if3 = c .before .before .before .before .before .before .before .before .if3 in
     let start-of = c .before .before .before .before .before .before .before .start-of in
     let page-block = c .before .before .before .before .before .page-block in
-    let a = c .before .before .before .before .before .before .before .before .before .before .before .before .before .before .before .before .before .before .args in
-    let w = c .before .n .given in
-    let p = page-fits (a .self) (a .d .now) (handedWith (a .registers .now) (a .types .now) (a .counts .now) (a .lens .now) (a .xs .now) (a .ys .now)) (start-of .result) (start-of .ensures) (if1 .left) (if2 .left) (if3 .left) (w .0 .0) _ (rw (w .1) at (page-block .ensures)) in
+    page-fits (a .self) (a .d .now) (handedWith (a .registers .now) (a .types .now) (a .counts .now) (a .lens .now) (a .xs .now) (a .ys .now)) (start-of .result) (start-of .ensures) (if1 .left) (if2 .left) (if3 .left) (w .0 .0) _ (rw (w .1) at (page-block .ensures))) in
     omega (arith, p .0)
 
 add-t24 : tie.Need-add-t24
