@@ -90,6 +90,13 @@ def function_of(one):
     return one.where if names == {one.where.split("/")[-1]} else ""
 
 
+def own_places(said):
+    """Where the prover refused something for itself, and not because something else was refused before it."""
+    found = re.findall(r"^\S*/proofs/(\S+?)(?:/Proof)?\.antt:[0-9]+:[0-9]+: error: `[^`]*`: (?!`[^`]*` was not admitted)", said, re.M)
+    open_ = re.findall(r"^fn \w+::(\S+): no proof: .*`search` does not close", said, re.M)
+    return set(found) | {name.replace("::", "/") for name in open_}
+
+
 def shows(said, one):
     """Whether what the prover said has the version's fact refused for itself, and not because something else was refused before it."""
     place = f"{re.escape(one.where)}(?:/Proof)?\\.antt:[0-9]+:[0-9]+"
