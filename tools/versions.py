@@ -90,17 +90,20 @@ def function_of(one):
     return one.where if names == {one.where.split("/")[-1]} else ""
 
 
+def own(said):
+    """What the prover refused for itself, and not because something else was refused before it: where and which fact, in its own order."""
+    found = re.findall(r"^\S*/proofs/(\S+?)(?:/Proof)?\.antt:[0-9]+:[0-9]+: error: `([^`]*)`: (?!`[^`]*` was not admitted)", said, re.M)
+    open_ = re.findall(r"^fn \w+::(\S+): no proof: .*`search` does not close `([^`]*)`", said, re.M)
+    return found + [(name.replace("::", "/"), fact) for name, fact in open_]
+
+
 def own_places(said):
-    """Where the prover refused something for itself, and not because something else was refused before it."""
-    found = re.findall(r"^\S*/proofs/(\S+?)(?:/Proof)?\.antt:[0-9]+:[0-9]+: error: `[^`]*`: (?!`[^`]*` was not admitted)", said, re.M)
-    open_ = re.findall(r"^fn \w+::(\S+): no proof: .*`search` does not close", said, re.M)
-    return set(found) | {name.replace("::", "/") for name in open_}
+    """Where the prover refused something for itself."""
+    return {where for where, _ in own(said)}
 
 
 def shows(said, one):
-    """Whether what the prover said has the version's fact refused for itself, and not because something else was refused before it."""
-    place = f"{re.escape(one.where)}(?:/Proof)?\\.antt:[0-9]+:[0-9]+"
-    refused = rf"^\S*/proofs/{place}: error: `{re.escape(one.fact)}`: (?!`[^`]*` was not admitted)"
-    name = re.escape("::".join([one.crate, *one.where.split("/")]))
-    open_ = rf"^fn {name}: no proof: .*`search` does not close .*`{re.escape(one.fact)}`"
-    return bool(one.fact) and bool(re.search(f"(?:{refused})|(?:{open_})", said, re.M))
+    """Whether the version's fact is the first that the prover refused for itself: in its function, where that function's body alone differs; else of all."""
+    function = function_of(one)
+    refused = [(where, fact) for where, fact in own(said) if not function or where == function]
+    return refused[:1] == [(one.where, one.fact)]
