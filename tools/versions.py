@@ -1,7 +1,9 @@
 """The wrong versions in crates/NAME/must-fail and crates/NAME/wrong: what an edit's file says, and whether a prover's log shows it.
 
-A file's first line says what is wrong with the version. `refused: WHERE FACT` names the fact that no longer holds: FACT stands in proofs/WHERE.antt, or in proofs/WHERE/Proof.antt
+A version's first line says what is wrong with it. `refused: WHERE FACT` names the fact that no longer holds: FACT stands in proofs/WHERE.antt, or in proofs/WHERE/Proof.antt
 where WHERE is a function. Then, as for `rt must-fail`, one or more replacements: a line `file:` holds for the pairs of lines `old:` and `new:` after it.
+
+A file has one version, and its name; or several, which one check tries together, each after a line `version: NAME`. Those must differ in the bodies of different functions.
 """
 import collections
 import os
@@ -9,7 +11,7 @@ import re
 
 ROOT = os.path.dirname(os.path.dirname(os.path.abspath(__file__)))
 
-Version = collections.namedtuple("Version", "crate folder label wrong where fact changes")
+Version = collections.namedtuple("Version", "crate folder edit label wrong where fact changes")
 Change = collections.namedtuple("Change", "file old new")
 
 
@@ -32,9 +34,8 @@ def imports():
     return {line.split(":")[0].strip(): line for line in lines if ":" in line}
 
 
-def version(crate, folder, label):
-    """One version, as its file says it."""
-    lines = read(f"{ROOT}/crates/{crate}/{folder}/{label}.edit").split("\n")
+def version(crate, folder, edit, label, lines):
+    """One version, as its lines say it."""
     where, fact, path, old, changes = "", "", "", "", []
     for line in lines[1:]:
         if line.startswith("refused: "):
@@ -45,7 +46,16 @@ def version(crate, folder, label):
             old = line[5:]
         elif line.startswith("new:"):
             changes.append(Change(path, old, line[4:].removeprefix(" ")))
-    return Version(crate, folder, label, lines[0], where, fact, tuple(changes))
+    return Version(crate, folder, edit, label, lines[0], where, fact, tuple(changes))
+
+
+def in_edit(crate, folder, edit):
+    """The versions of one file."""
+    text = read(f"{ROOT}/crates/{crate}/{folder}/{edit}.edit")
+    head, *named = re.split("^version: ", text, flags=re.M)
+    if not named:
+        return [version(crate, folder, edit, edit, head.split("\n"))]
+    return [version(crate, folder, edit, label, lines) for label, *lines in (part.split("\n") for part in named)]
 
 
 def versions(folder):
@@ -54,7 +64,7 @@ def versions(folder):
     for crate in imports():
         home = f"{ROOT}/crates/{crate}/{folder}"
         names = sorted(os.listdir(home)) if os.path.isdir(home) else []
-        found += [version(crate, folder, name[:-5]) for name in names if name.endswith(".edit")]
+        found += [one for name in names if name.endswith(".edit") for one in in_edit(crate, folder, name[:-5])]
     return found
 
 
@@ -90,6 +100,12 @@ def function_of(one):
     return one.where if names == {one.where.split("/")[-1]} else ""
 
 
+def apart(check):
+    """Whether versions may be tried by one check: there is one, or they differ in the bodies of different functions."""
+    functions = [function_of(one) for one in check]
+    return len(check) == 1 or ("" not in functions and len(set(functions)) == len(check))
+
+
 def own(said):
     """What the prover refused for itself, and not because something else was refused before it: where and which fact, in its own order."""
     found = re.findall(r"^\S*/proofs/(\S+?)(?:/Proof)?\.antt:[0-9]+:[0-9]+: error: `([^`]*)`: (?!`[^`]*` was not admitted)", said, re.M)
@@ -97,9 +113,10 @@ def own(said):
     return found + [(name.replace("::", "/"), fact) for name, fact in open_]
 
 
-def own_places(said):
-    """Where the prover refused something for itself."""
-    return {where for where, _ in own(said)}
+def beside(said, check):
+    """Where the prover refused something for itself outside the functions in whose bodies the versions of a check differ; nothing where one differs elsewhere."""
+    functions = {function_of(one) for one in check}
+    return set() if "" in functions else {where for where, _ in own(said)} - functions
 
 
 def shows(said, one):

@@ -9,76 +9,35 @@ ghost use Rattle.column.specs.Read.{saidBy, endOf};
 ghost use Rattle.column.specs.Filling.{Went};
 use crate::Position;
 
-// The bits of so many bytes, as far as a column can reach.
-fn bits_of(len: usize) -> usize
-    ensures { λ r. ⌜ (r ≤ 8 * len) × (r ≤ 524288) ⌝ }
+// The place before which an entry is sure to lie inside so many bytes: 17 stand from its first one on. A column reaches no further than 65,536.
+fn sure_before(len: usize) -> usize
+    ensures { λ r. ⌜ (0 < r → r + 128 ≤ 8 * len) ⌝ }
 {
+    if len < 17 {
+        return 0;
+    }
     if 65536 < len {
-        return 524288;
+        return 524160;
     }
-    8 * len
+    8 * len - 128
 }
 
-// The number up to which values may be given with no test for the end: were each entry 128 bits long, they would end inside the bits.
-fn sure_up_to(bits: usize, at: usize, given: usize, n: usize) -> usize
-    requires { ⌜ (given ≤ n) × (n ≤ 2048) ⌝ }
-    ensures { λ r. ⌜ (given ≤ r) × (r ≤ n) × (given < r → at + 128 * (r - given) < bits) ⌝ }
+// Gives values into out as long as the next entry is sure to lie inside s, with no test in the entry itself.
+fn fill_inside(s: &[u8], n: usize, m: u64, from: Position, out: &mut [u64]) -> Position
+    requires { ⌜ (from .width ≤ 64) × (m ≡ marker (from .width)) × (from .given ≤ n) × (n ≤ 2048) × (n ≤ length (now out)) × (from .at ≤ 72) ⌝ }
+    ensures { λ r. ⌜ Went 64 (number (now (s .entry))) n from (now (out .entry)) r (now (out .exit)) ⌝ }
 {
-    if bits <= at {
-        return given;
-    }
-    let k = (bits - at - 1) / 128;
-    if n - given < k { n } else { given + k }
-}
-
-// Gives values into out up to a number for which that is sure: a loop without a test for the end.
-fn fill_sure(s: &[u8], n: usize, stop: usize, m: u64, from: Position, out: &mut [u64]) -> Position
-    requires { ⌜ (from .width ≤ 64) × (m ≡ marker (from .width)) × (from .given ≤ stop) × (stop ≤ n) × (n ≤ 2048) × (n ≤ length (now out))
-        × (from .at + 128 * (stop - from .given) < 8 * length (now s)) × (from .at ≤ 72 + 128 * 2048) ⌝ }
-    ensures { λ r. ⌜ (Went 64 (number (now (s .entry))) n from (now (out .entry)) r (now (out .exit))) × (r .given ≡ stop) ⌝ }
-{
+    let before = sure_before(s.len());
     let w = from.width;
     let mut at = from.at;
     let mut last = from.last;
     let mut i = from.given;
-    while i < stop {
+    while i < n && at < before {
         let e = entry::entry_inside(s, at, w, m, last);
         at = e.next;
         last = e.value;
         out[i] = last;
         i += 1;
-    }
-    Position {
-        at,
-        given: i,
-        width: w,
-        last,
-    }
-}
-
-// Gives values into out as long as some entries are sure to lie inside s, as many at a time as are.
-fn fill_inside(s: &[u8], n: usize, m: u64, from: Position, out: &mut [u64]) -> Position
-    requires { ⌜ (from .width ≤ 64) × (m ≡ marker (from .width)) × (from .given ≤ n) × (n ≤ 2048) × (n ≤ length (now out)) × (from .at ≤ 72) ⌝ }
-    ensures { λ r. ⌜ Went 64 (number (now (s .entry))) n from (now (out .entry)) r (now (out .exit)) ⌝ }
-{
-    let bits = bits_of(s.len());
-    let w = from.width;
-    let mut at = from.at;
-    let mut last = from.last;
-    let mut i = from.given;
-    let mut stop = sure_up_to(bits, at, i, n);
-    while i < stop {
-        let here = Position {
-            at,
-            given: i,
-            width: w,
-            last,
-        };
-        let p = fill_sure(s, n, stop, m, here, out);
-        at = p.at;
-        last = p.last;
-        i = p.given;
-        stop = sure_up_to(bits, at, i, n);
     }
     Position {
         at,
