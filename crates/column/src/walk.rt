@@ -1,7 +1,7 @@
 // The walk over a column's entries, which gives its values into a room of the caller's own.
 ghost use mathlib.Core.Path.{_≡_};
 ghost use mathlib.Core.List.{_++_};
-ghost use Prim.Native.Nat.{_+_, _-_, _*_, _≤_, _<_};
+ghost use Prim.Native.Nat.{_+_, _*_, _≤_, _<_};
 ghost use lib.ListN.{length, drop, getD};
 ghost use Rattle.le.specs.Number.{number};
 ghost use Rattle.entry.specs.Step.{marker};
@@ -11,7 +11,7 @@ use crate::Position;
 
 // The place before which an entry is sure to lie inside so many bytes: 17 stand from its first one on. A column reaches no further than 65,536.
 fn sure_before(len: usize) -> usize
-    ensures { λ r. ⌜ (0 < r → r + 128 ≤ 8 * len) ⌝ }
+    ensures { λ r. ⌜ (r ≤ 524160) × (0 < r → r + 128 ≤ 8 * len) ⌝ }
 {
     if len < 17 {
         return 0;
@@ -22,7 +22,50 @@ fn sure_before(len: usize) -> usize
     8 * len - 128
 }
 
-// Gives values into out as long as the next entry is sure to lie inside s, with no test in the entry itself.
+// Where so many steps of width w from a place on would end, or the limit if that comes first.
+fn steps_end(limit: usize, at: usize, w: u64, left: usize) -> usize
+    requires { ⌜ (w ≤ 64) × (left ≤ 2048) × (at ≤ 72 + 128 * 2048) ⌝ }
+    ensures { λ r. ⌜ (r ≤ limit) × (r ≤ at + w * left) ⌝ }
+{
+    let end = at + (w as usize) * left;
+    if limit < end { limit } else { end }
+}
+
+// Gives values into out as long as steps follow each other and the next one begins before the limit.
+fn fill_steps(s: &[u8], n: usize, limit: usize, m: u64, from: Position, out: &mut [u64]) -> Position
+    requires { ⌜ (from .width ≤ 64) × (m ≡ marker (from .width)) × (from .given ≤ n) × (n ≤ 2048) × (n ≤ length (now out))
+        × (from .at ≤ 72 + 128 * 2048) × (limit + 64 ≤ 8 * length (now s)) ⌝ }
+    ensures { λ r. ⌜ (Went 64 (number (now (s .entry))) n from (now (out .entry)) r (now (out .exit))) × (from .given ≤ r .given) ⌝ }
+{
+    let w = from.width;
+    let mut at = from.at;
+    let mut last = from.last;
+    let mut i = from.given;
+    let end = steps_end(limit, at, w, n - i);
+    while at < end {
+        let z = le::bits::lead(s, at, w, m);
+        if m <= z {
+            return Position {
+                at,
+                given: i,
+                width: w,
+                last,
+            };
+        }
+        at += w as usize;
+        last = entry::stepped(last, z);
+        out[i] = last;
+        i += 1;
+    }
+    Position {
+        at,
+        given: i,
+        width: w,
+        last,
+    }
+}
+
+// Gives values into out as long as an entry is sure to lie inside s: one of either kind, and then the steps that follow it.
 fn fill_inside(s: &[u8], n: usize, m: u64, from: Position, out: &mut [u64]) -> Position
     requires { ⌜ (from .width ≤ 64) × (m ≡ marker (from .width)) × (from .given ≤ n) × (n ≤ 2048) × (n ≤ length (now out)) × (from .at ≤ 72) ⌝ }
     ensures { λ r. ⌜ Went 64 (number (now (s .entry))) n from (now (out .entry)) r (now (out .exit)) ⌝ }
@@ -34,10 +77,17 @@ fn fill_inside(s: &[u8], n: usize, m: u64, from: Position, out: &mut [u64]) -> P
     let mut i = from.given;
     while i < n && at < before {
         let e = entry::entry_inside(s, at, w, m, last);
-        at = e.next;
-        last = e.value;
-        out[i] = last;
-        i += 1;
+        out[i] = e.value;
+        let here = Position {
+            at: e.next,
+            given: i + 1,
+            width: w,
+            last: e.value,
+        };
+        let p = fill_steps(s, n, before + 64, m, here, out);
+        at = p.at;
+        last = p.last;
+        i = p.given;
     }
     Position {
         at,

@@ -1,6 +1,6 @@
 // One entry of a column: the step from one value to the next, or the value in full.
 ghost use mathlib.Core.Path.{_≡_};
-ghost use Prim.Native.Nat.{_+_, _*_, _/_, _^_, _≤_, _<_};
+ghost use Prim.Native.Nat.{_+_, _*_, _/_, _%_, _^_, _≤_, _<_};
 ghost use lib.ListN.{length};
 ghost use Rattle.le.specs.Number.{number};
 ghost use Rattle.entry.specs.Step.{zOf, unzigzag, marker};
@@ -37,6 +37,13 @@ fn unzigzag(z: u64) -> u64
     if z % 2 == 0 { z / 2 } else { u64::MAX - z / 2 }
 }
 
+// The value that a step says after the value a; z is its zigzag.
+pub fn stepped(a: u64, z: u64) -> u64
+    ensures { λ r. ⌜ r ≡ (a + unzigzag 64 z) % 2 ^ 64 ⌝ }
+{
+    std::num::wrapping_add_u64(a, unzigzag(z))
+}
+
 // What an entry gives: its value, and the place after it.
 pub struct Given {
     pub value: u64,
@@ -52,7 +59,7 @@ pub fn entry_at(s: &[u8], at: usize, n: u64, m: u64, a: u64) -> Given
     let p = at + (n as usize);
     if e < m {
         Given {
-            value: std::num::wrapping_add_u64(a, unzigzag(e)),
+            value: stepped(a, e),
             next: p,
         }
     } else {
@@ -72,7 +79,7 @@ pub fn entry_inside(s: &[u8], at: usize, n: u64, m: u64, a: u64) -> Given
     let p = at + (n as usize);
     if e < m {
         Given {
-            value: std::num::wrapping_add_u64(a, unzigzag(e)),
+            value: stepped(a, e),
             next: p,
         }
     } else {

@@ -12,17 +12,14 @@ field-requires c κs = search needs
 add-p : tie.Need-add-p
 add-p c = let st = c .before .before in omega (arith, size-least 64 (number (st .args .s .now)) (st .args .n) (st .args .at), st .pre .2)
 
-unzigzag-requires : tie.Need-unzigzag-requires
-unzigzag-requires c κs = search needs
-
-wrapping-add-u64-requires : tie.Need-wrapping-add-u64-requires
-wrapping-add-u64-requires c κs = search needs
+stepped-requires : tie.Need-stepped-requires
+stepped-requires c κs = search needs
 
 window-requires : tie.Need-window-requires
 window-requires c κs = search needs
 
-add-t14 : tie.Need-add-t14
-add-t14 c =
+add-t13 : tie.Need-add-t13
+add-t13 c =
     let st = c .before .before .before .before in
     let g = given-full 64 (number (st .args .s .now)) (st .args .n) (st .args .at) (st .args .a) (c .before .before .field .result) (c .before .before .field .ensures)
     (st .args .m) (c .window .result) (st .pre .1) (c .before .if1 .left) (c .window .ensures) in
@@ -30,9 +27,9 @@ add-t14 c =
 
 returns : tie.Need-returns
 returns c =
-    let st = c .before .before .before .before .before in
-    given-short 64 (number (st .args .s .now)) (st .args .n) (st .args .at) (st .args .a) (c .before .before .before .field .result) (c .before .before .before .field .ensures)
-    (st .args .m) (c .before .unzigzag .result) (c .wrapping-add-u64 .result) (st .pre .1) (c .before .before .if1 .taken) (c .before .unzigzag .ensures) (c .wrapping-add-u64 .ensures)
+    let st = c .before .before .before .before in
+    given-short 64 (number (st .args .s .now)) (st .args .n) (st .args .at) (st .args .a) (c .before .before .field .result) (c .before .before .field .ensures)
+    (st .args .m) (c .stepped .result) (st .pre .1) (c .before .if1 .taken) (c .stepped .ensures)
 
 returns-2 : tie.Need-returns-2
 returns-2 c =
@@ -46,9 +43,8 @@ entry-at-spec =
     (tie.spec
     field-requires
     add-p
-    unzigzag-requires
-    wrapping-add-u64-requires
+    stepped-requires
     window-requires
-    add-t14
+    add-t13
     returns
     returns-2)

@@ -1,5 +1,5 @@
--- `column::walk::fill_inside` gives values as long as the next entry is sure to lie inside the bytes. The invariant: the walk went from where
--- it began to here. Assumes nothing.
+-- `column::walk::fill_inside` gives values as long as an entry is sure to lie inside the bytes: one of either kind, and then the steps that follow
+-- it. The invariant: the walk went from where it began to here. Assumes nothing.
 use Prim.Native.Nat.{_-_}
 use native.Mathlib.Omega.{arith}
 use borrow.Author.Needs.{needs}
@@ -7,7 +7,7 @@ use borrow.Author.Tests.{ltb-true}
 use Rattle.le.specs.Number.{number}
 use Rattle.column.specs.Position.{position}
 use Rattle.column.specs.Filling.{Went}
-use Rattle.column.proofs.Filling.{went-none, went-more}
+use Rattle.column.proofs.Filling.{went-none, went-more, went-again}
 use Rattle.column.proofs.walk.fill_inside.Statement.{statement}
 use Rattle.column.proofs.walk.fill_inside.Tie as tie
 
@@ -32,7 +32,7 @@ entry-inside-requires c κs =
       st .pre .0,
       st .pre .1,
       omega (arith, l .inv .bound, st .pre .3, st .pre .5),
-      omega (arith, near, before .ensures (omega (arith, near))),
+      omega (arith, near, before .ensures .1 (omega (arith, near))),
     )
 
 mul-out : tie.Need-mul-out Inv-loop μ-loop
@@ -41,18 +41,44 @@ mul-out c = omega arith
 slice-write-out : tie.Need-slice-write-out Inv-loop μ-loop
 slice-write-out c = omega (arith, c .before .before .before .loop .inv .same)
 
-add-i : tie.Need-add-i Inv-loop μ-loop
-add-i c = omega arith
+add-fill-steps : tie.Need-add-fill-steps Inv-loop μ-loop
+add-fill-steps c = omega arith
+
+add-fill-steps-2 : tie.Need-add-fill-steps-2 Inv-loop μ-loop
+add-fill-steps-2 c = omega (arith, c .before .before .before .before .sure-before .ensures .0)
+
+fill-steps-requires : tie.Need-fill-steps-requires Inv-loop μ-loop
+fill-steps-requires c κs =
+    let st = c .before .before .before .before .before .before .before .before in
+    let l = c .before .before .before .before .loop in
+    let e = c .before .entry-inside in
+    let before = c .before .before .before .before .before .sure-before in
+    let near = ltb-true (l .at) (before .result) (c .before .before .if1 .taken) in
+    let one = went-more (l .at) (l .i) (st .args .from .width) (l .last) (l .out) (l .inv) (e .result .value) (e .result .next) (st .pre .0)
+    (c .before .before .before .loop-test .taken) (st .pre .4) (e .ensures) in (
+      st .pre .0,
+      st .pre .1,
+      one .most,
+      st .pre .3,
+      omega (arith, one .same, st .pre .4),
+      omega (arith, one .bound, st .pre .3, st .pre .5),
+      omega (arith, before .ensures .1 (omega (arith, near))),
+    )
 
 loop-less : tie.Need-loop-less Inv-loop μ-loop
-loop-less c = omega arith
+loop-less c =
+    let f = c .before .before .fill-steps in
+    omega (arith, f .ensures .1, f .ensures .0 .most, c .before .before .before .before .before .before .loop-test .taken)
 
 loop-again : tie.Need-loop-again Inv-loop μ-loop
 loop-again c =
-    let st = c .before .before .before .before .before .before .before in
-    let l = c .before .before .before .loop in
-    went-more (l .at) (l .i) (st .args .from .width) (l .last) (l .out) (l .inv) (c .entry-inside .result .value) (c .entry-inside .result .next)
-    (st .pre .0) (c .before .before .loop-test .taken) (st .pre .4) (c .entry-inside .ensures)
+    let st = c .before .before .before .before .before .before .before .before .before .before .before in
+    let l = c .before .before .before .before .before .before .before .loop in
+    let e = c .before .before .before .before .entry-inside in
+    let f = c .before .before .fill-steps in
+    let one = went-more (l .at) (l .i) (st .args .from .width) (l .last) (l .out) (l .inv) (e .result .value) (e .result .next) (st .pre .0)
+    (c .before .before .before .before .before .before .loop-test .taken) (st .pre .4) (e .ensures) in
+    went-again (f .result) one (f .ensures .0)
 
 same-length : tie.Need-same-length Inv-loop μ-loop
 same-length c = c .before .before .loop .inv .same
@@ -77,7 +103,9 @@ fill-inside-spec =
     entry-inside-requires
     mul-out
     slice-write-out
-    add-i
+    add-fill-steps
+    add-fill-steps-2
+    fill-steps-requires
     loop-less
     loop-again
     same-length
