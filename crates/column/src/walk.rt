@@ -65,8 +65,33 @@ fn fill_steps(s: &[u8], n: usize, limit: usize, m: u64, from: Position, out: &mu
     }
 }
 
+// Gives values into out as long as an entry is sure to lie inside s, one by one.
+fn fill_each(s: &[u8], n: usize, m: u64, from: Position, out: &mut [u64]) -> Position
+    requires { ⌜ (from .width ≤ 64) × (m ≡ marker (from .width)) × (from .given ≤ n) × (n ≤ 2048) × (n ≤ length (now out)) × (from .at ≤ 72) ⌝ }
+    ensures { λ r. ⌜ Went 64 (number (now (s .entry))) n from (now (out .entry)) r (now (out .exit)) ⌝ }
+{
+    let before = sure_before(s.len());
+    let w = from.width;
+    let mut at = from.at;
+    let mut last = from.last;
+    let mut i = from.given;
+    while i < n && at < before {
+        let e = entry::entry_inside(s, at, w, m, last);
+        at = e.next;
+        last = e.value;
+        out[i] = last;
+        i += 1;
+    }
+    Position {
+        at,
+        given: i,
+        width: w,
+        last,
+    }
+}
+
 // Gives values into out as long as an entry is sure to lie inside s: one of either kind, and then the steps that follow it.
-fn fill_inside(s: &[u8], n: usize, m: u64, from: Position, out: &mut [u64]) -> Position
+fn fill_runs(s: &[u8], n: usize, m: u64, from: Position, out: &mut [u64]) -> Position
     requires { ⌜ (from .width ≤ 64) × (m ≡ marker (from .width)) × (from .given ≤ n) × (n ≤ 2048) × (n ≤ length (now out)) × (from .at ≤ 72) ⌝ }
     ensures { λ r. ⌜ Went 64 (number (now (s .entry))) n from (now (out .entry)) r (now (out .exit)) ⌝ }
 {
@@ -95,6 +120,17 @@ fn fill_inside(s: &[u8], n: usize, m: u64, from: Position, out: &mut [u64]) -> P
         width: w,
         last,
     }
+}
+
+// Gives values into out as long as an entry is sure to lie inside s. At width 0 no step can stand, and there is nothing to look ahead for.
+fn fill_inside(s: &[u8], n: usize, m: u64, from: Position, out: &mut [u64]) -> Position
+    requires { ⌜ (from .width ≤ 64) × (m ≡ marker (from .width)) × (from .given ≤ n) × (n ≤ 2048) × (n ≤ length (now out)) × (from .at ≤ 72) ⌝ }
+    ensures { λ r. ⌜ Went 64 (number (now (s .entry))) n from (now (out .entry)) r (now (out .exit)) ⌝ }
+{
+    if from.width == 0 {
+        return fill_each(s, n, m, from, out);
+    }
+    fill_runs(s, n, m, from, out)
 }
 
 // Gives the rest of n values into out; past the end of s bits are 0.
