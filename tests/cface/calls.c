@@ -394,7 +394,6 @@ static void reading_in_place(void)
 
 /* ---- fetch */
 
-#ifdef BOUNDARY_TEST_FETCH
 static uint64_t fetch(uint64_t place, size_t about, size_t lens, size_t xs, size_t ys)
 {
     return boundary_fetch(now.file, SAMPLE, place, now.about, about, now.lens, lens, now.xs, xs, now.ys, ys);
@@ -422,7 +421,6 @@ static void fetching(void)
     kept = now;
     SAYS(fetch(3, 4, 0, 0, 0) >> 32, BOUNDARY_REFUSED_PARTS);
 }
-#endif
 
 /* Reads the bytes that the sample file should have. */
 static int read_sample(const char *path)
@@ -450,9 +448,7 @@ int main(int argc, char **argv)
     writing_columns();
     columns_refused();
     reading_in_place();
-#ifdef BOUNDARY_TEST_FETCH
     fetching();
-#endif
     printf("%u checks, %u failed\n", checks, failed);
     return failed == 0 && checks > 0 ? 0 : 1;
 }

@@ -15,7 +15,7 @@ use viewer::column_write::boundary_column_write;
 const COLUMN: usize = 20000;
 
 // 4: values, room.
-pub fn written(input: &[u8]) -> bool {
+pub(crate) fn written(input: &[u8]) -> bool {
     let mut values = [0u64; 2100];
     let mut room = [0u8; 20000];
     let v = copies::u64s(input, 1, &mut values);
@@ -37,7 +37,7 @@ fn write(values: &[u64], room: &mut [u8]) -> bool {
 }
 
 // 5: column, n, room.
-pub fn values(input: &[u8]) -> bool {
+pub(crate) fn values(input: &[u8]) -> bool {
     let mut room = [0u64; 2100];
     let s = span_at(input, 1, 1, COLUMN);
     let n = plain_at(input, s.next);
@@ -59,7 +59,7 @@ fn read(column: &[u8], n: usize, room: &mut [u64]) -> bool {
 }
 
 // 6: column, n, position.
-pub fn stepped(input: &[u8]) -> bool {
+pub(crate) fn stepped(input: &[u8]) -> bool {
     let mut position = [0u64; 8];
     let s = span_at(input, 1, 1, COLUMN);
     let n = plain_at(input, s.next);

@@ -8,7 +8,7 @@ use le::number::u32_at;
 use le::number::u64_at;
 
 // Bytes.
-pub fn u8s(input: &[u8], at: usize, room: &mut [u8]) -> Span
+pub(crate) fn u8s(input: &[u8], at: usize, room: &mut [u8]) -> Span
     ensures { λ r. ⌜ Counts (r .count) (now (room .exit)) ⌝ }
 {
     let s = span_at(input, at, 1, room.len());
@@ -23,7 +23,7 @@ pub fn u8s(input: &[u8], at: usize, room: &mut [u8]) -> Span
 }
 
 // Numbers of two bytes.
-pub fn u16s(input: &[u8], at: usize, room: &mut [u16]) -> Span
+pub(crate) fn u16s(input: &[u8], at: usize, room: &mut [u16]) -> Span
     ensures { λ r. ⌜ Counts (r .count) (now (room .exit)) ⌝ }
 {
     let s = span_at(input, at, 2, room.len());
@@ -38,7 +38,7 @@ pub fn u16s(input: &[u8], at: usize, room: &mut [u16]) -> Span
 }
 
 // Numbers of four bytes.
-pub fn u32s(input: &[u8], at: usize, room: &mut [u32]) -> Span
+pub(crate) fn u32s(input: &[u8], at: usize, room: &mut [u32]) -> Span
     ensures { λ r. ⌜ Counts (r .count) (now (room .exit)) ⌝ }
 {
     let s = span_at(input, at, 4, room.len());
@@ -53,7 +53,7 @@ pub fn u32s(input: &[u8], at: usize, room: &mut [u32]) -> Span
 }
 
 // Numbers of eight bytes.
-pub fn u64s(input: &[u8], at: usize, room: &mut [u64]) -> Span
+pub(crate) fn u64s(input: &[u8], at: usize, room: &mut [u64]) -> Span
     ensures { λ r. ⌜ Counts (r .count) (now (room .exit)) ⌝ }
 {
     let s = span_at(input, at, 8, room.len());

@@ -10,7 +10,7 @@ use crate::saying::malformed;
 use viewer::one_shape::boundary_fetch;
 
 // 3: file, place, about, lens, xs, ys.
-pub fn fetched(input: &[u8]) -> bool {
+pub(crate) fn fetched(input: &[u8]) -> bool {
     let mut about = [0u64; 8];
     let mut lens = [0u16; 2100];
     let f = span_at(input, 1, 1, 60000);

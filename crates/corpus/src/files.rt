@@ -16,7 +16,7 @@ const QUERY: usize = 60000;
 const FILE: usize = 60000;
 
 // 0: file.
-pub fn checked(input: &[u8]) -> bool {
+pub(crate) fn checked(input: &[u8]) -> bool {
     let f = span_at(input, 1, 1, FILE);
     if f.next != input.len() {
         return malformed();
@@ -28,7 +28,7 @@ pub fn checked(input: &[u8]) -> bool {
 }
 
 // 1: query, file.
-pub fn counted(input: &[u8]) -> bool {
+pub(crate) fn counted(input: &[u8]) -> bool {
     let q = span_at(input, 1, 1, QUERY);
     let f = span_at(input, q.next, 1, FILE);
     if f.next != input.len() {
@@ -42,7 +42,7 @@ pub fn counted(input: &[u8]) -> bool {
 }
 
 // 2: query, file, places.
-pub fn searched(input: &[u8]) -> bool {
+pub(crate) fn searched(input: &[u8]) -> bool {
     let mut places = [0u32; 300];
     let q = span_at(input, 1, 1, QUERY);
     let f = span_at(input, q.next, 1, FILE);

@@ -57,7 +57,7 @@ fn begun(elements: usize) {
 }
 
 // Bytes.
-pub fn u8s(room: &[u8]) {
+pub(crate) fn u8s(room: &[u8]) {
     begun(room.len());
     let mut text = [0u8; 4096];
     let mut used: usize = 0;
@@ -70,7 +70,7 @@ pub fn u8s(room: &[u8]) {
 }
 
 // Numbers of two bytes.
-pub fn u16s(room: &[u16]) {
+pub(crate) fn u16s(room: &[u16]) {
     begun(room.len());
     let mut text = [0u8; 4096];
     let mut used: usize = 0;
@@ -83,7 +83,7 @@ pub fn u16s(room: &[u16]) {
 }
 
 // Numbers of four bytes.
-pub fn u32s(room: &[u32]) {
+pub(crate) fn u32s(room: &[u32]) {
     begun(room.len());
     let mut text = [0u8; 4096];
     let mut used: usize = 0;
@@ -96,7 +96,7 @@ pub fn u32s(room: &[u32]) {
 }
 
 // Numbers of eight bytes.
-pub fn u64s(room: &[u64]) {
+pub(crate) fn u64s(room: &[u64]) {
     begun(room.len());
     let mut text = [0u8; 4096];
     let mut used: usize = 0;

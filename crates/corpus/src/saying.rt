@@ -3,7 +3,7 @@ use line::number;
 use line::say;
 
 // The service, and the answer taken apart: the refusal's number, then what the call says, or the page.
-pub fn answered(service: u64, word: u64) {
+pub(crate) fn answered(service: u64, word: u64) {
     number(service);
     say(b" ");
     number(word / 4294967296 % 256);
@@ -12,12 +12,12 @@ pub fn answered(service: u64, word: u64) {
 }
 
 // The end of a line.
-pub fn ended() -> bool {
+pub(crate) fn ended() -> bool {
     say(b"\n")
 }
 
 // The last line of a run that ends early.
-pub fn malformed() -> bool {
+pub(crate) fn malformed() -> bool {
     say(b"malformed\n");
     false
 }

@@ -6,7 +6,7 @@ use crate::saying::malformed;
 use crate::writing;
 
 // Serves a record and prints its line. Whether another case may follow.
-pub fn served(input: &[u8]) -> bool {
+pub(crate) fn served(input: &[u8]) -> bool {
     if input.len() == 0 {
         return malformed();
     }

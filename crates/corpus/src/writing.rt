@@ -19,7 +19,7 @@ fn showed(service: u64, word: u64, writer: &[u64], buffer: &[u8]) -> bool {
 }
 
 // 7, open, and 9, close: writer, buffer. 8, page: writer, buffer, registers, types, counts, lens, xs, ys.
-pub fn stepped(input: &[u8], service: u8) -> bool {
+pub(crate) fn stepped(input: &[u8], service: u8) -> bool {
     let mut writer = [0u64; 8];
     let mut buffer = [0u8; 20000];
     let w = copies::u64s(input, 1, &mut writer);
