@@ -55,11 +55,6 @@ bytes-part s at len h = bytes-take (drop at s) len (bytes-drop s at h)
 pub byte-at : (s : List ℕ) (i : ℕ) → Bytes s → number s / 2 ^ (8 * i) % 2 ^ 8 ≡ getD s i 0
 byte-at s i h = ap (λ (x : ℕ). x % 256) (number-drop s i h) ∙ head-of (drop i s) (bytes-drop s i h) ∙ getD-drop0 s i
 
-pub byte-at2 : (s : List ℕ) (i j : ℕ) → Bytes s → number s / 2 ^ (8 * i) / 2 ^ (8 * j) % 2 ^ 8 ≡ getD s (i + j) 0
-byte-at2 s i j h =
-    let e : 8 * i + 8 * j ≡ 8 * (i + j) = omega arith in
-    ap (λ (x : ℕ). x % 2 ^ 8) (shr-shr (number s) (8 * i) (8 * j) ∙ ap (λ (k : ℕ). number s / 2 ^ k) e) ∙ byte-at s (i + j) h
-
 pub number-lt : (s : List ℕ) → Bytes s → number s < 2 ^ (8 * length s)
 unfolding number
 number-lt [] h = suc-le-suc zero-le
@@ -89,23 +84,20 @@ number-at k s at h = sym (ap (λ (x : ℕ). x % 2 ^ (8 * k)) (number-drop s at h
 pub number-at-lt : (k : ℕ) (s : List ℕ) (at : ℕ) → Bytes s → numberAt k s at < 2 ^ (8 * k)
 number-at-lt k s at h = subst (λ (x : ℕ). x < 2 ^ (8 * k)) (sym (number-at k s at h)) (mod-lt (number s / 2 ^ (8 * at)) (pow-pos (8 * k)))
 
--- none, and one byte more above
-pub number-at-none : (s : List ℕ) (at : ℕ) → numberAt 0 s at ≡ 0
-unfolding numberAt number
-number-at-none s at = refl
-
-pub number-at-more : (k : ℕ) (s : List ℕ) (at : ℕ) → Bytes s → numberAt (suc k) s at ≡ getD s (at + k) 0 * 2 ^ (8 * k) + numberAt k s at
-number-at-more k s at h =
-    let e : 8 * suc k ≡ 8 + 8 * k = omega arith in
-    number-at (suc k) s at h
-    ∙ ap (λ (j : ℕ). number s / 2 ^ (8 * at) % 2 ^ j) e
-    ∙ mod-pow-add (number s / 2 ^ (8 * at)) 8 (8 * k)
-    ∙ ap₂ (λ (x y : ℕ). x * 2 ^ (8 * k) + y) (byte-at2 s at k h) (sym (number-at k s at h))
+-- so many bytes, and more above them
+pub number-at-join : (k j : ℕ) (s : List ℕ) (at : ℕ) → Bytes s → numberAt (k + j) s at ≡ numberAt j s (at + k) * 2 ^ (8 * k) + numberAt k s at
+number-at-join k j s at h =
+    let e : 8 * (k + j) ≡ 8 * j + 8 * k = omega arith in
+    let f : 8 * at + 8 * k ≡ 8 * (at + k) = omega arith in
+    number-at (k + j) s at h
+    ∙ ap (λ (i : ℕ). number s / 2 ^ (8 * at) % 2 ^ i) e
+    ∙ mod-pow-add (number s / 2 ^ (8 * at)) (8 * j) (8 * k)
+    ∙ ap₂ (λ (x y : ℕ). x * 2 ^ (8 * k) + y)
+    (ap (λ (x : ℕ). x % 2 ^ (8 * j)) (shr-shr (number s) (8 * at) (8 * k) ∙ ap (λ (i : ℕ). number s / 2 ^ i) f) ∙ sym (number-at j s (at + k) h))
+    (sym (number-at k s at h))
 
 pub number-at-one : (s : List ℕ) (at : ℕ) → Bytes s → numberAt 1 s at ≡ getD s at 0
-number-at-one s at h =
-    let e : at + 0 ≡ at = omega arith in
-    omega (arith, number-at-more 0 s at h, number-at-none s at, ap (λ (j : ℕ). getD s j 0) e)
+number-at-one s at h = number-at 1 s at h ∙ byte-at s at h
 
 -- ---- the last bytes
 

@@ -2,12 +2,13 @@
 use mathlib.Core.Path.{_≡_, sym, ap, ap₂, _∙_}
 use mathlib.Core.List.{List, [], _∷_, _++_}
 use Prim.Native.Nat.{ℕ, zero, suc, _+_, _*_, _/_, _%_, _^_, _≤_, _<_}
-use native.Mathlib.Nat.{add-zero, div-one}
+use native.Mathlib.Nat.{add-zero, zero-add, div-one}
 use native.Mathlib.Omega.{arith}
 use lib.ListN.{length, set}
 use lib.Seq.{sets, length-sets, set-out}
 use lib.Pow.{shr-shr}
 use Rattle.le.specs.Number.{bytesOf, Bytes}
+use Rattle.le.proofs.Bytes.{length-bytesOf}
 
 -- ---- the list stays one of bytes
 
@@ -30,17 +31,33 @@ sets-append (a ∷ h) l out n =
     let z : n + suc (length h) ≡ suc n + length h = omega arith in
     rw z (sets-append h l (set out n a) (suc n))
 
--- ---- the bytes of a number, one more above
+-- ---- the bytes of a number: so many, and more above them
+
+bytes-join : (k j x : ℕ) → bytesOf (k + j) x ≡ bytesOf k x ++ bytesOf j (x / 2 ^ (8 * k))
+unfolding bytesOf
+bytes-join zero j x = ap₂ bytesOf (zero-add j) (sym (div-one x))
+bytes-join (suc k) j x =
+    let e : suc k + j ≡ suc (k + j) = omega arith in
+    let f : 8 + 8 * k ≡ 8 * suc k = omega arith in
+    ap (λ (i : ℕ). bytesOf i x) e
+    ∙ ap (λ (l : List ℕ). x % 256 ∷ l) (bytes-join k j (x / 256))
+    ∙ ap (λ (y : ℕ). x % 256 ∷ (bytesOf k (x / 256) ++ bytesOf j y)) (shr-shr x 8 (8 * k) ∙ ap (λ (i : ℕ). x / 2 ^ i) f)
+
+sets-join : (k j : ℕ) (d : List ℕ) (at x : ℕ) → sets d at (bytesOf (k + j) x) ≡ sets (sets d at (bytesOf k x)) (at + k) (bytesOf j (x / 2 ^ (8 * k)))
+sets-join k j d at x =
+    ap (sets d at) (bytes-join k j x)
+    ∙ sets-append (bytesOf k x) (bytesOf j (x / 2 ^ (8 * k))) d at
+    ∙ ap (λ (n : ℕ). sets (sets d at (bytesOf k x)) (at + n) (bytesOf j (x / 2 ^ (8 * k)))) (length-bytesOf k x)
+
+-- a store of the lower bytes, and one of those above them
+pub stores-join : (k j : ℕ) (d t u : List ℕ) (at x : ℕ) → t ≡ sets d at (bytesOf k x) → u ≡ sets t (at + k) (bytesOf j (x / 2 ^ (8 * k))) → u ≡ sets d at (bytesOf (k + j) x)
+stores-join k j d t u at x p q = q ∙ ap (λ (l : List ℕ). sets l (at + k) (bytesOf j (x / 2 ^ (8 * k)))) p ∙ sym (sets-join k j d at x)
 
 pub sets-more : (k : ℕ) (d : List ℕ) (at x : ℕ) → sets d at (bytesOf (suc k) x) ≡ set (sets d at (bytesOf k x)) (at + k) (x / 2 ^ (8 * k) % 256)
 unfolding bytesOf
-sets-more zero d at x = ap₂ (set d) (sym (add-zero at)) (ap (λ (y : ℕ). y % 256) (sym (div-one x)))
-sets-more (suc k) d at x =
-    let e : suc at + k ≡ at + suc k = omega arith in
-    let f : 8 + 8 * k ≡ 8 * suc k = omega arith in
-    sets-more k (set d at (x % 256)) (suc at) (x / 256)
-    ∙ ap₂ (set (sets (set d at (x % 256)) (suc at) (bytesOf k (x / 256)))) e
-    (ap (λ (y : ℕ). y % 256) (shr-shr x 8 (8 * k) ∙ ap (λ (j : ℕ). x / 2 ^ j) f))
+sets-more k d at x =
+    let e : suc k ≡ k + 1 = omega arith in
+    ap (λ (i : ℕ). sets d at (bytesOf i x)) e ∙ sets-join k 1 d at x
 
 -- a store of the next byte
 pub store-first : (d : List ℕ) (at x b : ℕ) → b ≡ x % 256 → set d at b ≡ sets d at (bytesOf 1 x)

@@ -1,8 +1,9 @@
 -- `u16_at` gives the number of two bytes. Assumes nothing.
+use Prim.Native.Nat.{_+_}
 use native.Mathlib.Omega.{arith}
 use borrow.Author.Needs.{needs}
 use Rattle.le.specs.Number.{Bytes}
-use Rattle.le.proofs.Numbers.{number-at-one, number-at-more, number-at-lt}
+use Rattle.le.proofs.Numbers.{number-at-one, number-at-join, number-at-lt}
 use Rattle.le.proofs.number.u16_at.Statement.{statement}
 use Rattle.le.proofs.number.u16_at.Tie as tie
 
@@ -22,7 +23,7 @@ returns : tie.Need-returns
 returns c =
     let a = c .before .before .before .before .args in
     let h : Bytes (a .s .now) = λ i. c .before .shared-slice-known3 .given i .fits in
-    omega (arith, c .two .ensures, number-at-more 1 (a .s .now) (a .at) h, number-at-one (a .s .now) (a .at) h, number-at-lt 2 (a .s .now) (a .at) h)
+    omega (arith, c .two .ensures, number-at-join 1 1 (a .s .now) (a .at) h, number-at-one (a .s .now) (a .at) h, number-at-one (a .s .now) (a .at + 1) h, number-at-lt 2 (a .s .now) (a .at) h)
 
 pub u16-at-spec : {M : Type 1} → statement M
 u16-at-spec =

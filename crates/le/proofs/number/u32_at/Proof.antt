@@ -1,51 +1,32 @@
--- `u32_at` gives the number of four bytes. Assumes nothing.
+-- `u32_at` gives the number of four bytes: the upper half above the lower one. Nothing is assumed.
 use native.Mathlib.Omega.{arith}
 use borrow.Author.Needs.{needs}
 use Rattle.le.specs.Number.{Bytes}
-use Rattle.le.proofs.Numbers.{number-at-one, number-at-more, number-at-lt}
+use Rattle.le.proofs.Numbers.{number-at-join, number-at-lt}
 use Rattle.le.proofs.number.u32_at.Statement.{statement}
 use Rattle.le.proofs.number.u32_at.Tie as tie
 
-shared-slice-read-four : tie.Need-shared-slice-read-four
-shared-slice-read-four c = search needs
+add-u16-at : tie.Need-add-u16-at
+add-u16-at c = search needs
 
-add-four : tie.Need-add-four
-add-four c = search needs
+u16-at-requires : tie.Need-u16-at-requires
+u16-at-requires c κs = search needs
 
-shared-slice-read-four-2 : tie.Need-shared-slice-read-four-2
-shared-slice-read-four-2 c = search needs
+mul-result : tie.Need-mul-result
+mul-result c = omega (arith, c .u16-at .ensures)
 
-add-four-2 : tie.Need-add-four-2
-add-four-2 c = search needs
+u16-at-requires-2 : tie.Need-u16-at-requires-2
+u16-at-requires-2 c κs = search needs
 
-shared-slice-read-four-3 : tie.Need-shared-slice-read-four-3
-shared-slice-read-four-3 c = search needs
-
-add-four-3 : tie.Need-add-four-3
-add-four-3 c = search needs
-
-shared-slice-read-four-4 : tie.Need-shared-slice-read-four-4
-shared-slice-read-four-4 c = search needs
-
-four-requires : tie.Need-four-requires
-four-requires c κs = search needs
+add-result : tie.Need-add-result
+add-result c = omega (arith, c .before .u16-at .ensures, c .u16-at2 .ensures)
 
 returns : tie.Need-returns
 returns c =
-    let a = c .before .before .before .before .before .before .args in
-    let h : Bytes (a .s .now) = λ i. c .before .shared-slice-known5 .given i .fits in
-    omega (arith, c .four .ensures, number-at-more 3 (a .s .now) (a .at) h, number-at-more 2 (a .s .now) (a .at) h, number-at-more 1 (a .s .now) (a .at) h, number-at-one (a .s .now) (a .at) h, number-at-lt 4 (a .s .now) (a .at) h)
+    let a = c .before .before .before .args in
+    let h : Bytes (a .s .now) = λ i. c .before .before .shared-slice-known .given i .fits in
+    omega (arith, c .before .u16-at .ensures .0, c .u16-at2 .ensures .0, number-at-join 2 2 (a .s .now) (a .at) h, number-at-lt 4 (a .s .now) (a .at) h)
 
 pub u32-at-spec : {M : Type 1} → statement M
 u32-at-spec =
-    tie.close
-    (tie.spec
-    shared-slice-read-four
-    add-four
-    shared-slice-read-four-2
-    add-four-2
-    shared-slice-read-four-3
-    add-four-3
-    shared-slice-read-four-4
-    four-requires
-    returns)
+    tie.close (tie.spec add-u16-at u16-at-requires mul-result u16-at-requires-2 add-result returns)

@@ -1,83 +1,32 @@
--- `u64_at` gives the number of eight bytes. Assumes nothing.
+-- `u64_at` gives the number of eight bytes: the upper half above the lower one. Nothing is assumed.
 use native.Mathlib.Omega.{arith}
 use borrow.Author.Needs.{needs}
 use Rattle.le.specs.Number.{Bytes}
-use Rattle.le.proofs.Numbers.{number-at-one, number-at-more, number-at-lt}
+use Rattle.le.proofs.Numbers.{number-at-join, number-at-lt}
 use Rattle.le.proofs.number.u64_at.Statement.{statement}
 use Rattle.le.proofs.number.u64_at.Tie as tie
 
-shared-slice-read-eight : tie.Need-shared-slice-read-eight
-shared-slice-read-eight c = search needs
+add-u32-at : tie.Need-add-u32-at
+add-u32-at c = search needs
 
-add-eight : tie.Need-add-eight
-add-eight c = search needs
+u32-at-requires : tie.Need-u32-at-requires
+u32-at-requires c κs = search needs
 
-shared-slice-read-eight-2 : tie.Need-shared-slice-read-eight-2
-shared-slice-read-eight-2 c = search needs
+mul-result : tie.Need-mul-result
+mul-result c = omega (arith, c .u32-at .ensures)
 
-add-eight-2 : tie.Need-add-eight-2
-add-eight-2 c = search needs
+u32-at-requires-2 : tie.Need-u32-at-requires-2
+u32-at-requires-2 c κs = search needs
 
-shared-slice-read-eight-3 : tie.Need-shared-slice-read-eight-3
-shared-slice-read-eight-3 c = search needs
-
-add-eight-3 : tie.Need-add-eight-3
-add-eight-3 c = search needs
-
-shared-slice-read-eight-4 : tie.Need-shared-slice-read-eight-4
-shared-slice-read-eight-4 c = search needs
-
-add-eight-4 : tie.Need-add-eight-4
-add-eight-4 c = search needs
-
-shared-slice-read-eight-5 : tie.Need-shared-slice-read-eight-5
-shared-slice-read-eight-5 c = search needs
-
-add-eight-5 : tie.Need-add-eight-5
-add-eight-5 c = search needs
-
-shared-slice-read-eight-6 : tie.Need-shared-slice-read-eight-6
-shared-slice-read-eight-6 c = search needs
-
-add-eight-6 : tie.Need-add-eight-6
-add-eight-6 c = search needs
-
-shared-slice-read-eight-7 : tie.Need-shared-slice-read-eight-7
-shared-slice-read-eight-7 c = search needs
-
-add-eight-7 : tie.Need-add-eight-7
-add-eight-7 c = search needs
-
-shared-slice-read-eight-8 : tie.Need-shared-slice-read-eight-8
-shared-slice-read-eight-8 c = search needs
-
-eight-requires : tie.Need-eight-requires
-eight-requires c κs = search needs
+add-result : tie.Need-add-result
+add-result c = omega (arith, c .before .u32-at .ensures, c .u32-at2 .ensures)
 
 returns : tie.Need-returns
 returns c =
-    let a = c .before .before .before .before .before .before .before .before .before .before .args in
-    let h : Bytes (a .s .now) = λ i. c .before .shared-slice-known9 .given i .fits in
-    omega (arith, c .eight .ensures, number-at-more 7 (a .s .now) (a .at) h, number-at-more 6 (a .s .now) (a .at) h, number-at-more 5 (a .s .now) (a .at) h, number-at-more 4 (a .s .now) (a .at) h, number-at-more 3 (a .s .now) (a .at) h, number-at-more 2 (a .s .now) (a .at) h, number-at-more 1 (a .s .now) (a .at) h, number-at-one (a .s .now) (a .at) h, number-at-lt 8 (a .s .now) (a .at) h)
+    let a = c .before .before .before .args in
+    let h : Bytes (a .s .now) = λ i. c .before .before .shared-slice-known .given i .fits in
+    omega (arith, c .before .u32-at .ensures .0, c .u32-at2 .ensures .0, number-at-join 4 4 (a .s .now) (a .at) h, number-at-lt 8 (a .s .now) (a .at) h)
 
 pub u64-at-spec : {M : Type 1} → statement M
 u64-at-spec =
-    tie.close
-    (tie.spec
-    shared-slice-read-eight
-    add-eight
-    shared-slice-read-eight-2
-    add-eight-2
-    shared-slice-read-eight-3
-    add-eight-3
-    shared-slice-read-eight-4
-    add-eight-4
-    shared-slice-read-eight-5
-    add-eight-5
-    shared-slice-read-eight-6
-    add-eight-6
-    shared-slice-read-eight-7
-    add-eight-7
-    shared-slice-read-eight-8
-    eight-requires
-    returns)
+    tie.close (tie.spec add-u32-at u32-at-requires mul-result u32-at-requires-2 add-result returns)
