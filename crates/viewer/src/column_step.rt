@@ -6,8 +6,8 @@ use crate::position::put_position;
 use crate::word::number_word;
 use crate::word::refusal_word;
 use answer::table::ROOM;
+use holder::answer_at;
 use reader::Answer;
-use reader::next;
 
 // 1 with a value: the words are then the next position, whose last value it is. 0 at the end, or the refusal; the words are then as they came.
 #[no_mangle]
@@ -18,7 +18,7 @@ pub extern "C" fn boundary_column_step(column: &[u8], n: usize, position: &mut [
         return number_word(ROOM);
     }
     let p = position_of(position);
-    match next(column, n, p) {
+    match answer_at(column, n, p) {
         Answer::Refused(w, _) => refusal_word(w),
         Answer::End(_) => 0,
         Answer::Value(_, q) => {

@@ -13,8 +13,8 @@ returns c = step-short _ _ _ _ (c .before .if1 .taken) (c .number-word .ensures)
 position-of-requires : tie.Need-position-of-requires
 position-of-requires c κs = search needs
 
-next-requires : tie.Need-next-requires
-next-requires c κs = search needs
+answer-at-requires : tie.Need-answer-at-requires
+answer-at-requires c κs = search needs
 
 enum-known-w : tie.Need-enum-known-w
 enum-known-w c = search needs
@@ -38,14 +38,14 @@ returns-2 : tie.Need-returns-2
 returns-2 c =
     let if1 = c .before .before .before .before .before .before .before .if1 in
     let position-of = c .before .before .before .before .before .position-of in
-    let next = c .before .before .before .before .next in
-    step-refused _ _ _ (if1 .left) _ (position-of .ensures) _ (next .ensures) _ _ _ (c .before .before .w .given .1) (c .refusal-word .ensures)
+    let answer-at = c .before .before .before .before .answer-at in
+    step-refused _ _ _ (if1 .left) _ (position-of .ensures) _ (answer-at .ensures) _ _ _ (c .before .before .w .given .1) (c .refusal-word .ensures)
 
 same-length-2 : tie.Need-same-length-2
 same-length-2 c = search needs
 
 returns-3 : tie.Need-returns-3
-returns-3 c = step-end _ _ _ (c .before .before .before .before .before .if1 .left) _ (c .before .before .before .position-of .ensures) _ (c .before .before .next .ensures) _ (c .enum-told .given .1)
+returns-3 c = step-end _ _ _ (c .before .before .before .before .before .if1 .left) _ (c .before .before .before .position-of .ensures) _ (c .before .before .answer-at .ensures) _ (c .enum-told .given .1)
 
 same-length-3 : tie.Need-same-length-3
 same-length-3 c = search needs
@@ -54,9 +54,9 @@ returns-4 : tie.Need-returns-4
 returns-4 c =
     let if1 = c .before .before .before .before .before .before .before .before .before .before .if1 in
     let position-of = c .before .before .before .before .before .before .before .before .position-of in
-    let next = c .before .before .before .before .before .before .before .next in
+    let answer-at = c .before .before .before .before .before .before .before .answer-at in
     let q = c .before .before .before .before .before .q in
-    step-value _ _ _ (if1 .left) _ (position-of .ensures) _ (next .ensures) _ _ _ (q .given .1) (c .before .before .put-position .ensures)
+    step-value _ _ _ (if1 .left) _ (position-of .ensures) _ (answer-at .ensures) _ _ _ (q .given .1) (c .before .before .put-position .ensures)
 
 pub boundary-column-step-spec : {M : Type 1} → statement M
 boundary-column-step-spec =
@@ -65,7 +65,7 @@ boundary-column-step-spec =
     number-word-requires
     returns
     position-of-requires
-    next-requires
+    answer-at-requires
     enum-known-w
     refusal-word-requires
     enum-told
