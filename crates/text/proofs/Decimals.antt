@@ -75,6 +75,7 @@ digits-length (suc k) n = go (ltb n 10) (digits-length k (n / 10))
     go true h = omega arith
     go false h = omega (arith, length-append (digitsOf k (n / 10)) ((48 + n % 10) ∷ []))
 
+-- 20 at most
 pub decimal-length : (n : ℕ) → length (decimal n) ≤ 20
 unfolding decimal
 decimal-length n = digits-length 20 n
@@ -100,6 +101,7 @@ pub marked-put : (d t : List ℕ) (at end n mark : ℕ) → Puts d at (decimal n
 unfolding marked
 marked-put d t at end n mark p = puts-two d t (set t end mark) (decimal n) (mark ∷ []) at end (end + 1) p (refl, refl)
 
+-- which take 21 at most
 pub marked-length : (n mark : ℕ) → length (marked n mark) ≤ 21
 unfolding marked
 marked-length n mark = omega (arith, decimal-length n, length-append (decimal n) (mark ∷ []))

@@ -1,5 +1,5 @@
 -- `text::lines::put_line` puts a line of two numbers: its parts, one behind the other. Nothing is assumed.
-use Rattle.text.proofs.TwoNumbers.{told-length, line-put}
+use Rattle.text.proofs.TwoNumbers.{told-length, line-fits, line-put}
 use native.Mathlib.Omega.{arith}
 use borrow.Author.Needs.{needs}
 use Rattle.text.proofs.lines.put_line.Statement.{statement}
@@ -16,16 +16,18 @@ put-told-requires-2 c κs =
 put-bytes-requires : tie.Need-put-bytes-requires
 put-bytes-requires c κs =
     let start = c .before .before .before .before .before .before .before .before in
+    let a = start .args in
     let one = c .before .before .before .put-told in
     let two = c .before .put-told2 in
-    omega (arith, start .pre, one .ensures .0, two .ensures .0, one .kept, two .kept, told-length (start .args .a .now) (start .args .n), told-length (start .args .b .now) (start .args .m))
+    omega (arith, one .kept, two .kept, line-fits (a .a .now) (a .b .now) (a .c .now) (a .n) (a .m) _ _ (start .pre) (one .ensures .0) (two .ensures .0))
 
 add-result : tie.Need-add-result
 add-result c =
     let start = c .before .before .before .before .before .before .before .before .before in
+    let a = start .args in
     let one = c .before .before .before .before .put-told in
     let two = c .before .before .put-told2 in
-    omega (arith, start .pre, one .ensures .0, two .ensures .0, told-length (start .args .a .now) (start .args .n), told-length (start .args .b .now) (start .args .m))
+    omega (arith, line-fits (a .a .now) (a .b .now) (a .c .now) (a .n) (a .m) _ _ (start .pre) (one .ensures .0) (two .ensures .0))
 
 returns : tie.Need-returns
 returns c =
