@@ -13,7 +13,7 @@ use viewer::one_shape::boundary_fetch;
 pub(crate) fn fetched(input: &[u8]) -> bool {
     let mut about = [0u64; 8];
     let mut lens = [0u16; 2100];
-    let f = span_at(input, 1, 1, 60000);
+    let f = span_at(input, 1, 1, 65000);
     let p = plain_at(input, f.next);
     let a = copies::u64s(input, p.next, &mut about);
     let l = copies::u16s(input, a.next, &mut lens);

@@ -11,9 +11,9 @@ use viewer::count::boundary_count;
 use viewer::hits::boundary_search;
 
 // The most bytes of a query, and of a file.
-const QUERY: usize = 60000;
+const QUERY: usize = 65000;
 
-const FILE: usize = 60000;
+const FILE: usize = 65000;
 
 // 0: file.
 pub(crate) fn checked(input: &[u8]) -> bool {

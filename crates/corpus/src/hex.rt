@@ -2,8 +2,8 @@
 // are gathered in a text of 4,096 bytes and written from there, part by part.
 ghost use Prim.Native.Nat.{_≤_};
 use crate::record::part;
+use crate::saying::say;
 use le::number::wide;
-use line::say;
 
 // The digit of the low four bits, in lower case.
 fn digit(x: u64) -> u8 {

@@ -6,7 +6,7 @@
 // it holds before the call; a plain number is a u64. A line is the service, the refusal's number and the low 32 bits of the answer, in decimal, and
 // then each room after the call, in hexadecimal, or `-` where it has no element. A record that is not just so, or over a limit, ends the run with the
 // line `malformed`. The limits, in elements: a position, a writer's state or about 8; registers, types, counts or places 300; lens, xs, ys, values or a
-// room for values 2,100; the bytes of a column or a buffer 20,000; a record 60,000.
+// room for values 2,100; the bytes of a column or a buffer 20,000; a record 65,000.
 mod columns;
 mod copies;
 mod fetched;
@@ -52,6 +52,6 @@ fn every(input: &mut [u8]) {
 }
 
 fn main() {
-    let mut input = [0u8; 60000];
+    let mut input = [0u8; 65000];
     every(&mut input);
 }

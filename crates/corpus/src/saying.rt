@@ -1,6 +1,16 @@
-// The start and the end of a line. The end answers whether another case may follow: that it was written, and that the case was well formed.
-use line::number;
-use line::say;
+// Words on standard output, and the start and the end of a line. The end answers whether another case may follow: that it was written, and that the case was well
+// formed.
+use libc::STDOUT_FILENO;
+
+// Words as they stand: whether all was written.
+pub(crate) fn say(words: &[u8]) -> bool {
+    io::write_all(STDOUT_FILENO, words)
+}
+
+// A number in decimal: whether all was written.
+fn number(n: u64) -> bool {
+    io::print_decimal(STDOUT_FILENO, n)
+}
 
 // The service, and the answer taken apart: the refusal's number, then what the call says, or the page.
 pub(crate) fn answered(service: u64, word: u64) {

@@ -16,6 +16,8 @@ use query::block::BlockLen;
 use query::block::ask_of;
 use query::block::block_len;
 use search::search::search;
+use text::lines::put_hits;
+use text::lines::put_refused;
 use text::put_row;
 
 // The least of three lengths.
@@ -61,14 +63,28 @@ fn say_rows(places: &[u32], registers: &[u32], types: &[u8], out: &mut [u8])
     io::write_all(STDOUT_FILENO, &out[..at]);
 }
 
-// "hits H of M": so many hits, of all shapes of a file.
-fn say_hits(hits: usize, file: &[u8]) {
+// "refused R page P".
+fn say_refused(w: Refusal) {
+    let mut out = [0u8; 64];
+    let k = put_refused(&mut out, w.number, w.page);
+    io::write_all(STDOUT_FILENO, &out[..k]);
+}
+
+// "hits H of M".
+fn say_hits(hits: usize, shapes: usize) {
+    let mut out = [0u8; 64];
+    let k = put_hits(&mut out, hits, shapes);
+    io::write_all(STDOUT_FILENO, &out[..k]);
+}
+
+// The last line: so many hits, of all shapes of a file.
+fn say_last(hits: usize, file: &[u8]) {
     match frame(file) {
         Framed::Sound(t) => {
-            line::hits(hits, t.shapes);
+            say_hits(hits, t.shapes);
         }
         Framed::Refused(w) => {
-            line::refused(w);
+            say_refused(w);
         }
     }
 }
@@ -82,10 +98,10 @@ fn list_places(places: &[u32], file: &[u8]) {
         Filled::Start(_) => {
             let mut out = [0u8; 8192];
             say_rows(places, &registers, &types, &mut out);
-            say_hits(n, file);
+            say_last(n, file);
         }
         Filled::Refused(w) => {
-            line::refused(w);
+            say_refused(w);
         }
     }
 }
@@ -98,7 +114,7 @@ fn list(a: Ask, file: &[u8]) {
             list_places(&places[..n], file);
         }
         Filled::Refused(w) => {
-            line::refused(w);
+            say_refused(w);
         }
     }
 }
@@ -110,7 +126,7 @@ fn answer_to(input: &[u8], len: usize) {
         return;
     }
     if 40960 < n - len {
-        line::refused(Refusal::because(MANY));
+        say_refused(Refusal::because(MANY));
         return;
     }
     match ask_of(&input[..len]) {
@@ -118,7 +134,7 @@ fn answer_to(input: &[u8], len: usize) {
             list(a, &input[len..]);
         }
         AskRead::Refused(w) => {
-            line::refused(w);
+            say_refused(w);
         }
     }
 }
@@ -132,7 +148,7 @@ fn main() {
             answer_to(&input[..n], len);
         }
         BlockLen::Refused(w) => {
-            line::refused(w);
+            say_refused(w);
         }
     }
 }

@@ -1,7 +1,9 @@
 // Writes the sample file of document 01 to standard output, by the proved writer. It is held to the file `stdout`, whose bytes were worked out by
 // hand from the document; docs/FORMAT.md shows them one by one.
+use answer::Refusal;
 use answer::Verdict;
 use libc::STDOUT_FILENO;
+use text::lines::put_refused;
 use writer::Stepped;
 use writer::Writer;
 
@@ -40,6 +42,13 @@ fn second_page(w: Writer, file: &mut [u8]) -> Stepped {
     w.page(file, &registers, &types, &counts, &lens, &xs, &ys)
 }
 
+// "refused R page P".
+fn say_refused(w: Refusal) {
+    let mut out = [0u8; 64];
+    let k = put_refused(&mut out, w.number, w.page);
+    io::write_all(STDOUT_FILENO, &out[..k]);
+}
+
 // The bytes before the position, if the last step was taken.
 fn show(last: Stepped, file: &[u8]) {
     let end = last.writer.position;
@@ -51,7 +60,7 @@ fn show(last: Stepped, file: &[u8]) {
             }
         }
         Verdict::Refused(w) => {
-            line::refused(w);
+            say_refused(w);
         }
     }
 }

@@ -1,16 +1,42 @@
 // The full check as a program: a file on standard input, and one line that says how many pages and shapes it has, or why it is refused.
+ghost use mathlib.Core.Path.{_≡_};
+ghost use Rattle.file.specs.Check.{saidCheck};
+ghost use Rattle.text.specs.Lines.{Lined};
+ghost use Rattle.sound.specs.Sound.{judgedOf, soundOf};
 use answer::Refusal;
 use answer::table::MANY;
+use file::check::Checked;
 use file::check::check;
 use libc::STDIN_FILENO;
+use libc::STDOUT_FILENO;
+use text::lines::put_refused;
+use text::lines::put_sound;
 
-// Reads one byte more than the largest file that it takes, to see whether there is more.
+// 3 for over 40,960 bytes, else the full check.
+fn judged(input: &[u8]) -> Checked
+    ensures { λ r. ⌜ saidCheck r ≡ judgedOf (now (input .entry)) ⌝ }
+{
+    if 40960 < input.len() {
+        return Checked::Refused(Refusal::because(MANY));
+    }
+    check(input)
+}
+
+// Puts the line for the bytes that were read: its length.
+fn answer(input: &[u8], out: &mut [u8; 64]) -> usize
+    ensures { λ r. ⌜ Lined (soundOf (now (input .entry))) (now (out .entry)) r (now (out .exit)) ⌝ }
+{
+    match judged(input) {
+        Checked::Sound(t) => put_sound(out, t.pages, t.shapes),
+        Checked::Refused(w) => put_refused(out, w.number, w.page),
+    }
+}
+
+// Reads one byte more than the largest file that it takes, to see whether there is more, and writes the line.
 fn main() {
     let mut input = [0u8; 40961];
     let n = io::read_full(STDIN_FILENO, &mut input);
-    if 40960 < n {
-        line::refused(Refusal::because(MANY));
-        return;
-    }
-    line::checked(check(&input[..n]));
+    let mut out = [0u8; 64];
+    let k = answer(&input[..n], &mut out);
+    io::write_all(STDOUT_FILENO, &out[..k]);
 }

@@ -1,4 +1,4 @@
--- Shown here: the fewest digits that hold a number are its decimal, of at most 20 digits where the number has 64 bits. Nothing is assumed.
+-- Shown here: the fewest digits that hold a number are its decimal, of at most 20 digits where the number has 64 bits; and what is put for numbers one behind the other is their text. Nothing is assumed.
 use Prim.Native.Nat.{ℕ, zero, suc, _+_, _-_, _*_, _/_, _%_, _^_, _≤_, _<_}
 use mathlib.Core.Path.{_≡_, refl, sym, ap, ap₂, _∙_}
 use mathlib.Core.Bool.{Bool, true, false, cond}
@@ -13,7 +13,7 @@ use lib.Dec.{ltb, leb}
 use Rattle.io.specs.Counts.{Counts}
 use Rattle.io.specs.Digits.{digits, glyph, Fewest}
 use Rattle.le.proofs.Stores.{sets-append}
-use Rattle.text.specs.Decimal.{digitsOf, decimal, marked, row}
+use Rattle.text.specs.Decimal.{Puts, digitsOf, decimal, marked, row}
 
 -- a number below ten is its one digit
 digits-one : (m n : ℕ) → n < 10 → digitsOf (suc m) n ≡ (48 + n) ∷ []
@@ -75,38 +75,49 @@ digits-length (suc k) n = go (ltb n 10) (digits-length k (n / 10))
     go true h = omega arith
     go false h = omega (arith, length-append (digitsOf k (n / 10)) ((48 + n % 10) ∷ []))
 
--- so what is put for a number and its mark is theirs
-pub marked-put : (d t l : List ℕ) (at k n mark : ℕ) → n < 2 ^ 64 → Fewest 10 1 n k → Counts k l → take k l ≡ digits 10 k n → t ≡ sets d at (take k l)
-    → (at + k + 1 ≡ at + length (marked n mark)) × (set t (at + k) mark ≡ sets d at (marked n mark))
-unfolding decimal marked
-marked-put d t l at zero n mark u f c e g = absurd (let z : 1 ≤ 0 = f .0 in omega arith)
-marked-put d t l at (suc k) n mark u f c e g =
+-- 20 at most
+pub decimal-length : (n : ℕ) → length (decimal n) ≤ 20
+unfolding decimal
+decimal-length n = digits-length 20 n
+
+-- what is put for a number is its decimal
+pub decimal-put : (d t l : List ℕ) (at k n : ℕ) → n < 2 ^ 64 → Fewest 10 1 n k → Counts k l → take k l ≡ digits 10 k n → t ≡ sets d at (take k l)
+    → Puts d at (decimal n) (at + k) t
+unfolding decimal
+decimal-put d t l at zero n u f c e g = absurd (let z : 1 ≤ 0 = f .0 in omega arith)
+decimal-put d t l at (suc k) n u f c e g =
     let s : take (suc k) l ≡ digitsOf 20 n = e ∙ fewest-decimal k 20 n f (fewest-20 n (suc k) f u) in
-    let m : suc k ≡ length (digitsOf 20 n) = c .1 ∙ ap length s in (
-      omega (arith, length-append (digitsOf 20 n) (mark ∷ [])),
-      ap₂ (λ (x : List ℕ) (j : ℕ). set x (at + j) mark) (g ∙ ap (sets d at) s) m ∙ sym (sets-append (digitsOf 20 n) (mark ∷ []) d at),
-    )
+    (ap (λ (j : ℕ). at + j) (c .1 ∙ ap length s), g ∙ ap (sets d at) s)
 
+-- two texts that are put one behind the other are one text
+pub puts-two : (d t u x y : List ℕ) (at a b : ℕ) → Puts d at x a t → Puts t a y b u → Puts d at (x ++ y) b u
+puts-two d t u x y at a b p q = (
+  omega (arith, length-append x y, p .0, q .0),
+  q .1 ∙ ap₂ (λ (l : List ℕ) (j : ℕ). sets l j y) (p .1) (p .0) ∙ sym (sets-append x y d at),
+)
+
+-- a number and the mark behind it
+pub marked-put : (d t : List ℕ) (at end n mark : ℕ) → Puts d at (decimal n) end t → Puts d at (marked n mark) (end + 1) (set t end mark)
+unfolding marked
+marked-put d t at end n mark p = puts-two d t (set t end mark) (decimal n) (mark ∷ []) at end (end + 1) p (refl, refl)
+
+-- which take 21 at most
 pub marked-length : (n mark : ℕ) → length (marked n mark) ≤ 21
-unfolding decimal marked
-marked-length n mark = omega (arith, digits-length 20 n, length-append (digitsOf 20 n) (mark ∷ []))
+unfolding marked
+marked-length n mark = omega (arith, decimal-length n, length-append (decimal n) (mark ∷ []))
 
--- and what is put for the three numbers of a row is the row
+-- and the three numbers of a row
 pub row-put : (d t u v : List ℕ) (at a b c place register kind : ℕ)
-    → (a ≡ at + length (marked place 32)) × (t ≡ sets d at (marked place 32))
-    → (b ≡ a + length (marked register 32)) × (u ≡ sets t a (marked register 32))
-    → (c ≡ b + length (marked kind 10)) × (v ≡ sets u b (marked kind 10))
-    → (c ≡ at + length (row place register kind)) × (length (row place register kind) ≤ 63) × (v ≡ sets d at (row place register kind))
+    → Puts d at (marked place 32) a t
+    → Puts t a (marked register 32) b u
+    → Puts u b (marked kind 10) c v
+    → (length (row place register kind) ≤ 63) × Puts d at (row place register kind) c v
 unfolding row
 row-put d t u v at a b c place register kind p q r =
     let x = marked place 32 in
     let y = marked register 32 in
     let z = marked kind 10 in
     let m : length (x ++ (y ++ z)) ≡ length x + (length y + length z) = length-append x (y ++ z) ∙ ap (λ (n : ℕ). length x + n) (length-append y z) in (
-      omega (arith, m, p .0, q .0, r .0),
       omega (arith, m, marked-length place 32, marked-length register 32, marked-length kind 10),
-      r .1
-          ∙ ap₂ (λ (l : List ℕ) (j : ℕ). sets l j z) (q .1 ∙ ap₂ (λ (l : List ℕ) (j : ℕ). sets l j y) (p .1) (p .0)) (q .0 ∙ ap (λ (j : ℕ). j + length y) (p .0))
-          ∙ sym (sets-append y z (sets d at x) (at + length x))
-          ∙ sym (sets-append x (y ++ z) d at),
+      puts-two d t v x (y ++ z) at a c p (puts-two t u v y z a b c q r),
     )

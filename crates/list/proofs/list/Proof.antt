@@ -6,43 +6,33 @@ use borrow.Author.Needs.{needs}
 use Rattle.list.proofs.list.Statement.{statement}
 use Rattle.list.proofs.list.Tie as tie
 
--- src/main.rt:96:27
 slice-aggregate-search : tie.Need-slice-aggregate-search
 slice-aggregate-search c = search needs
 
--- src/main.rt:96:11
 search-requires : tie.Need-search-requires
 search-requires c κs = search needs
 
--- src/main.rt:97:23
 enum-known-n : tie.Need-enum-known-n
 enum-known-n c = search needs
 
--- src/main.rt:98:25
 array-share-prefix-places : tie.Need-array-share-prefix-places
 array-share-prefix-places c = start-fits _ _ _ _ _ (c .before .before .before .before .search .ensures) (c .before .n .given .1)
 
--- src/main.rt:98:25
 slice-aggregate-list-places : tie.Need-slice-aggregate-list-places
 slice-aggregate-list-places c = sym (length-take-le _ _ (start-fits _ _ _ _ _ (c .before .before .before .before .before .search .ensures) (c .before .before .n .given .1)))
 
--- src/main.rt:98:13
 list-places-requires : tie.Need-list-places-requires
 list-places-requires c κs = search needs
 
--- src/main.rt:100:25
 enum-known-w : tie.Need-enum-known-w
 enum-known-w c = search needs
 
--- src/main.rt:101:13
-refused-requires : tie.Need-refused-requires
-refused-requires c κs = search needs
+say-refused-requires : tie.Need-say-refused-requires
+say-refused-requires c κs = search needs
 
--- src/main.rt:94:1
 returns : tie.Need-returns
 returns c = search needs
 
--- src/main.rt:94:1
 returns-2 : tie.Need-returns-2
 returns-2 c = search needs
 
@@ -57,6 +47,6 @@ list-spec =
     slice-aggregate-list-places
     list-places-requires
     enum-known-w
-    refused-requires
+    say-refused-requires
     returns
     returns-2)

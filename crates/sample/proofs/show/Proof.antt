@@ -17,8 +17,8 @@ write-all-requires c κs = search needs
 enum-known-verdict : tie.Need-enum-known-verdict
 enum-known-verdict c = search needs
 
-refused-requires : tie.Need-refused-requires
-refused-requires c κs = search needs
+say-refused-requires : tie.Need-say-refused-requires
+say-refused-requires c κs = search needs
 
 returns : tie.Need-returns
 returns c = search needs
@@ -37,7 +37,7 @@ show-spec =
     slice-aggregate-write-all
     write-all-requires
     enum-known-verdict
-    refused-requires
+    say-refused-requires
     returns
     returns-2
     returns-3)

@@ -5,17 +5,14 @@ use borrow.Author.Needs.{needs}
 use Rattle.text.proofs.put_row.Statement.{statement}
 use Rattle.text.proofs.put_row.Tie as tie
 
--- src/lib.rt:28:9
 put-marked-requires : tie.Need-put-marked-requires
 put-marked-requires c κs = search needs
 
--- src/lib.rt:29:9
 put-marked-requires-2 : tie.Need-put-marked-requires-2
 put-marked-requires-2 c κs =
     let a = c .before .before .before .before .before .before .args in
     omega (arith, c .before .before .before .before .before .before .pre, c .before .before .before .put-marked .ensures .0, c .before .before .out .given, marked-length (a .place) 32)
 
--- src/lib.rt:30:5
 put-marked-requires-3 : tie.Need-put-marked-requires-3
 put-marked-requires-3 c κs =
     let pre = c .before .before .before .before .before .before .before .before .before .before .pre in
@@ -24,11 +21,9 @@ put-marked-requires-3 c κs =
     let a = c .before .before .before .before .before .before .before .before .before .before .args in
     omega (arith, pre, put-marked .ensures .0, out .given, c .before .before .before .put-marked2 .ensures .0, c .before .before .out2 .given, marked-length (a .place) 32, marked-length (a .register) 32)
 
--- src/lib.rt:24:1
 same-length : tie.Need-same-length
 same-length c = search needs
 
--- src/lib.rt:24:1
 returns : tie.Need-returns
 returns c =
     let put-marked = c .before .before .before .before .before .before .before .before .before .before .put-marked in

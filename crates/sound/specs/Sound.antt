@@ -1,0 +1,25 @@
+-- What the program prints of the bytes that it reads: it "gives 3 for its size first, then runs the full check and prints 'sound P pages M shapes' or the refused
+-- line". Assumes nothing.
+use Prim.Native.Nat.{ℕ}
+use mathlib.Core.List.{List}
+use lib.Dec.{leb}
+use lib.ListN.{length}
+use Rattle.answer.specs.Table.{many}
+use Rattle.answer.specs.Refusal.{because}
+use Rattle.answer.specs.Outcome.{Out, refused, ok, need}
+use Rattle.frame.specs.declared.walk.Totals.{Totals}
+use Rattle.file.specs.Check.{checkOf}
+use Rattle.text.specs.Lines.{refusedLine, soundLine}
+
+-- 3 for over 40,960 bytes, else the full check
+unfoldable pub judgedOf : List ℕ → Out Totals
+judgedOf s = need (leb (length s) 40960) (because many) (checkOf s)
+
+-- how many pages and shapes, or the refusal with its page, as a line
+unfoldable pub lineOf : Out Totals → List ℕ
+lineOf (refused w) = refusedLine (w .number) (w .page)
+lineOf (ok t) = soundLine (t .pages) (t .shapes)
+
+-- the line for the bytes
+unfoldable pub soundOf : List ℕ → List ℕ
+soundOf s = lineOf (judgedOf s)
