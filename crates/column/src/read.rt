@@ -34,7 +34,7 @@ pub fn decode(s: &[u8], n: usize, out: &mut [u64]) -> Filled
     if (e + 7) / 8 != len {
         return refused(answer::table::BITS);
     }
-    if le::bits::window(s, e) != 0 {
+    if le::bits::rest(s, e) != 0 {
         return refused(answer::table::FILL);
     }
     Filled::Start(n)
@@ -96,7 +96,7 @@ fn read_pair(s: &[u8], n: usize, out: &mut [u64]) -> Filled
     if (end + 7) / 8 != len {
         return refused(answer::table::BITS);
     }
-    if le::bits::window(s, end) != 0 {
+    if le::bits::rest(s, end) != 0 {
         return refused(answer::table::FILL);
     }
     out[0] = a;

@@ -2,7 +2,7 @@
 use mathlib.Core.Path.{_≡_, refl, sym, ap, ap₂, _∙_, subst}
 use mathlib.Core.List.{List, [], _∷_}
 use Prim.Native.Nat.{ℕ, zero, suc, _+_, _-_, _*_, _/_, _%_, _^_, _≤_, _<_, zero-le, suc-le-suc}
-use native.Mathlib.Nat.{zero-div, zero-mod, div-one, mod-one, mod-lt, mod-eq-of-lt, lt-of-lt-of-le}
+use native.Mathlib.Nat.{zero-div, zero-mod, div-one, div-le-self, mod-one, mod-lt, mod-eq-of-lt, lt-of-lt-of-le}
 use native.Mathlib.Omega.{arith}
 use lib.Arith.{digits-div, digits-mod, digits-lt}
 use lib.ListN.{length, getD, take, drop, length-drop, drop-of-length-le}
@@ -128,3 +128,13 @@ last-law s f i h l q =
     let whole : number s / 2 ^ (8 * f) % 2 ^ 64 ≡ number s / 2 ^ (8 * f) = ap (λ (x : ℕ). x % 2 ^ 64) (number-drop s f h) ∙ mod-eq-of-lt (tail-lt s f 8 h l) ∙ sym (number-drop s f h) in
     let rest : number s / 2 ^ (8 * i) % 2 ^ 64 ≡ number s / 2 ^ (8 * i) = ap (λ (x : ℕ). x % 2 ^ 64) (number-drop s i h) ∙ mod-eq-of-lt (tail-lt s i 8 h (omega arith)) ∙ sym (number-drop s i h) in
     ap (λ (x : ℕ). x / 2 ^ ((i - f) * 8)) whole ∙ shr-shr (number s) (8 * f) ((i - f) * 8) ∙ ap (λ (k : ℕ). number s / 2 ^ k) e ∙ sym rest
+
+-- the bits from a place on that lies in the last byte, i, or right behind it, are what is left of that byte
+pub rest-law : (s : List ℕ) (i at : ℕ) → Bytes s → length s ≤ i + 1 → 8 * i ≤ at → getD s i 0 / 2 ^ (at - 8 * i) ≡ number s / 2 ^ at % 2 ^ 64
+rest-law s i at h l q =
+    let e : 8 * i + (at - 8 * i) ≡ at = omega arith in
+    let small : number s / 2 ^ (8 * i) < 256 = subst (λ (x : ℕ). x < 256) (sym (number-drop s i h)) (tail-lt s i 1 h l) in
+    let byte : getD s i 0 ≡ number s / 2 ^ (8 * i) = sym (byte-at s i h) ∙ mod-eq-of-lt small in
+    let here : getD s i 0 / 2 ^ (at - 8 * i) ≡ number s / 2 ^ at = ap (λ (x : ℕ). x / 2 ^ (at - 8 * i)) byte ∙ shr-shr (number s) (8 * i) (at - 8 * i) ∙ ap (λ (k : ℕ). number s / 2 ^ k) e in
+    let few : number s / 2 ^ at < 2 ^ 64 = subst (λ (x : ℕ). x < 2 ^ 64) here (omega (arith, h i, div-le-self (getD s i 0) (2 ^ (at - 8 * i)))) in
+    here ∙ sym (mod-eq-of-lt few)

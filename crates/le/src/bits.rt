@@ -87,6 +87,15 @@ pub fn window(s: &[u8], at: usize) -> u64
     (hi << (64 - k)) | (lo >> k)
 }
 
+// The bits from bit place at on, where the place lies in the last byte or right behind it: what the window gives there, from that byte alone.
+pub fn rest(s: &[u8], at: usize) -> u64
+    requires { ⌜ (0 < length (now s)) × ((at + 7) / 8 ≡ length (now s)) ⌝ }
+    ensures { λ r. ⌜ r ≡ field (number (now (s .entry))) at 64 ⌝ }
+{
+    let i = s.len() - 1;
+    wide(s[i]) >> ((at - 8 * i) as u64)
+}
+
 // The field of w bits at bit place at; past the end its bits are 0. Up to 56 bits lie in the eight bytes that begin at its first byte.
 pub fn field(s: &[u8], at: usize, w: u64) -> u64
     requires { ⌜ w ≤ 64 ⌝ }
