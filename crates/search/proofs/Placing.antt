@@ -50,7 +50,7 @@ under : (b : Bool) (x k : ℕ) → x < 2 ^ k → x + onlyIf b (2 ^ k) < 2 ^ (k +
 under true x k h = let p : 2 ^ (k + 1) ≡ 2 ^ k * 2 = pow-add 2 k 1 in omega (arith, h, p)
 under false x k h = let p : 2 ^ (k + 1) ≡ 2 ^ k * 2 = pow-add 2 k 1 in omega (arith, h, p)
 
-pub one-le : (b : Bool) → onlyIf b 1 ≤ 1
+one-le : (b : Bool) → onlyIf b 1 ≤ 1
 one-le true = omega arith
 one-le false = omega arith
 

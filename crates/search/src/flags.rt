@@ -25,7 +25,7 @@ fn mark(flags: &mut [u8], place: usize)
 
 // Notes a hit at a place, or none: how many that is.
 pub fn note(hit: bool, place: usize, flags: &mut [u8]) -> usize
-    ensures { λ r. ⌜ (r ≡ onlyIf hit 1) × Adds (now (flags .entry)) (now (flags .exit)) place (place + 1) (onlyIf hit (2 ^ place)) ⌝ }
+    ensures { λ r. ⌜ (r ≤ 1) × (r ≡ onlyIf hit 1) × Adds (now (flags .entry)) (now (flags .exit)) place (place + 1) (onlyIf hit (2 ^ place)) ⌝ }
 {
     if hit {
         mark(flags, place);

@@ -11,7 +11,7 @@ use Rattle.types.specs.Parts.{total}
 use Rattle.shape.specs.Outline.{outlinesOf}
 use Rattle.shape.proofs.Walking.{Walking, walking-none, walking-counted, walking-parts, walking-there, outlineAt, walking-cut, walking-stands, walking-more, walking-end}
 use Rattle.search.specs.Flags.{onlyIf}
-use Rattle.search.proofs.Placing.{Noting, noting-none, noting-more, noting-done, one-le}
+use Rattle.search.proofs.Placing.{Noting, noting-none, noting-more, noting-done}
 use borrow.Author.Needs.{needs}
 use Rattle.search.proofs.hits.shapes_hit.Statement.{statement}
 use Rattle.search.proofs.hits.shapes_hit.Tie as tie
@@ -134,12 +134,8 @@ add-found : tie.Need-add-found Inv-loop μ-loop
 add-found c =
     let pre = c .before .before .before .before .before .before .before .before .before .before .before .before .before .before .before .before .before .before .pre in
     let loop-test = c .before .before .before .before .before .before .before .before .before .before .loop-test in
-    let hit = c .before .before .before .before .hit in
-    let a = c .before .before .before .before .before .before .before .before .before .before .before .before .before .before .before .before .before .before .args in
     let l = c .before .before .before .before .before .before .before .before .before .before .before .loop in
-    let t = loop-test .taken in
-    let w = l .inv .1 in
-    omega (arith, w .few, c .before .before .note .ensures .0, one-le (hit .result), pre .1, t)
+    omega (arith, l .inv .1 .few, c .before .before .note .ensures .0, pre .1, loop-test .taken)
 
 add-i : tie.Need-add-i Inv-loop μ-loop
 add-i c = omega arith
@@ -161,8 +157,8 @@ loop-again c =
     let o = outlineAt (getD (a .types .now) (l .i) 0) (a .lens .now) (a .xs .now) (a .ys .now) (l .k) e (l .at) end in (
       walking-more (a .types .now) (a .counts .now) (a .lens .now) (a .xs .now) (a .ys .now) (l .i) (l .k) (l .at) (l .inv .0) t e end refl g,
       noting-more (a .a) (a .n) (outlinesOf (a .types .now) (a .counts .now) (a .lens .now) (a .xs .now) (a .ys .now)) (a .n + length (a .types .now)) (a .flags .now) (l .i) (l .found) (l .flags) (l .inv .1) o _ _
-          (walking-stands (a .types .now) (a .counts .now) (a .lens .now) (a .xs .now) (a .ys .now) (l .i) (l .k) (l .at) (l .inv .0) t e end refl g) (omega (arith, t)) (c .before .before .note .ensures .0 ∙ ap (λ (b : Bool). onlyIf b 1) (hit .ensures))
-          (rw (← hit .ensures) (c .before .before .note .ensures .1)) (c .before .flags .given),
+          (walking-stands (a .types .now) (a .counts .now) (a .lens .now) (a .xs .now) (a .ys .now) (l .i) (l .k) (l .at) (l .inv .0) t e end refl g) (omega (arith, t)) (c .before .before .note .ensures .1 ∙ ap (λ (b : Bool). onlyIf b 1) (hit .ensures))
+          (rw (← hit .ensures) (c .before .before .note .ensures .2)) (c .before .flags .given),
     )
 
 same-length : tie.Need-same-length Inv-loop μ-loop
