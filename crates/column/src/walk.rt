@@ -133,6 +133,45 @@ fn fill_inside(s: &[u8], n: usize, m: u64, from: Position, out: &mut [u64]) -> P
     fill_runs(s, n, m, from, out)
 }
 
+// Gives values into out as long as steps follow each other that begin in the last eight bytes.
+fn fill_last(s: &[u8], n: usize, m: u64, from: Position, out: &mut [u64]) -> Position
+    requires { ⌜ (from .width ≤ 64) × (m ≡ marker (from .width)) × (from .given ≤ n) × (n ≤ 2048) × (n ≤ length (now out)) × (from .at ≤ 72 + 128 * 2048) ⌝ }
+    ensures { λ r. ⌜ Went 64 (number (now (s .entry))) n from (now (out .entry)) r (now (out .exit)) ⌝ }
+{
+    let len = s.len();
+    let w = from.width;
+    let mut at = from.at;
+    let mut last = from.last;
+    let mut i = from.given;
+    if at / 8 + 8 < len {
+        return from;
+    }
+    if len < 8 {
+        return from;
+    }
+    while i < n && at / 8 < len {
+        let e = le::bits::closing(s, at, m);
+        if m <= e {
+            return Position {
+                at,
+                given: i,
+                width: w,
+                last,
+            };
+        }
+        at += w as usize;
+        last = entry::stepped(last, e);
+        out[i] = last;
+        i += 1;
+    }
+    Position {
+        at,
+        given: i,
+        width: w,
+        last,
+    }
+}
+
 // Gives the rest of n values into out; past the end of s bits are 0.
 fn fill_rest(s: &[u8], n: usize, m: u64, from: Position, out: &mut [u64]) -> Position
     requires { ⌜ (from .width ≤ 64) × (m ≡ marker (from .width)) × (from .given ≤ n) × (n ≤ 2048) × (n ≤ length (now out)) × (from .at ≤ 72 + 128 * 2048) ⌝ }
@@ -172,6 +211,7 @@ pub(crate) fn fill(s: &[u8], n: usize, w: u64, out: &mut [u64]) -> usize
         last: first,
     };
     let inside = fill_inside(s, n, m, start, out);
-    let end = fill_rest(s, n, m, inside, out);
+    let near = fill_last(s, n, m, inside, out);
+    let end = fill_rest(s, n, m, near, out);
     end.at
 }

@@ -121,13 +121,21 @@ pub empty-law : (s : List ℕ) → 0 ≡ number (drop (length s) s)
 unfolding number
 empty-law s = sym (ap number (drop-length s))
 
--- the bits from byte i on are what is left of a word that ends with the bytes
+-- a word that ends with the bytes, or behind them, has all the bits from its first on
+whole-law : (s : List ℕ) (f : ℕ) → Bytes s → length s ≤ f + 8 → number s / 2 ^ (8 * f) % 2 ^ 64 ≡ number s / 2 ^ (8 * f)
+whole-law s f h l = ap (λ (x : ℕ). x % 2 ^ 64) (number-drop s f h) ∙ mod-eq-of-lt (tail-lt s f 8 h l) ∙ sym (number-drop s f h)
+
+-- so the bits from a place in it on are what is left of it
+pub closing-law : (s : List ℕ) (f at : ℕ) → Bytes s → length s ≤ f + 8 → 8 * f ≤ at → number s / 2 ^ (8 * f) % 2 ^ 64 / 2 ^ (at - 8 * f) ≡ number s / 2 ^ at
+closing-law s f at h l q =
+    let e : 8 * f + (at - 8 * f) ≡ at = omega arith in
+    ap (λ (x : ℕ). x / 2 ^ (at - 8 * f)) (whole-law s f h l) ∙ shr-shr (number s) (8 * f) (at - 8 * f) ∙ ap (λ (k : ℕ). number s / 2 ^ k) e
+
+-- and so are those from byte i on
 pub last-law : (s : List ℕ) (f i : ℕ) → Bytes s → length s ≤ f + 8 → f ≤ i → number s / 2 ^ (8 * f) % 2 ^ 64 / 2 ^ ((i - f) * 8) ≡ number s / 2 ^ (8 * i) % 2 ^ 64
 last-law s f i h l q =
-    let e : 8 * f + (i - f) * 8 ≡ 8 * i = omega arith in
-    let whole : number s / 2 ^ (8 * f) % 2 ^ 64 ≡ number s / 2 ^ (8 * f) = ap (λ (x : ℕ). x % 2 ^ 64) (number-drop s f h) ∙ mod-eq-of-lt (tail-lt s f 8 h l) ∙ sym (number-drop s f h) in
-    let rest : number s / 2 ^ (8 * i) % 2 ^ 64 ≡ number s / 2 ^ (8 * i) = ap (λ (x : ℕ). x % 2 ^ 64) (number-drop s i h) ∙ mod-eq-of-lt (tail-lt s i 8 h (omega arith)) ∙ sym (number-drop s i h) in
-    ap (λ (x : ℕ). x / 2 ^ ((i - f) * 8)) whole ∙ shr-shr (number s) (8 * f) ((i - f) * 8) ∙ ap (λ (k : ℕ). number s / 2 ^ k) e ∙ sym rest
+    let e : (i - f) * 8 ≡ 8 * i - 8 * f = omega arith in
+    ap (λ (k : ℕ). number s / 2 ^ (8 * f) % 2 ^ 64 / 2 ^ k) e ∙ closing-law s f (8 * i) h l (omega arith) ∙ sym (whole-law s i h (omega arith))
 
 -- the bits from a place on that lies in the last byte, i, or right behind it, are what is left of that byte
 pub rest-law : (s : List ℕ) (i at : ℕ) → Bytes s → length s ≤ i + 1 → 8 * i ≤ at → getD s i 0 / 2 ^ (at - 8 * i) ≡ number s / 2 ^ at % 2 ^ 64

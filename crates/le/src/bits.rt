@@ -1,7 +1,7 @@
 // Bit fields of a slice, read and written word by word. Bit k of the slice is bit k mod 8 of byte k / 8, lowest first, so the slice is one
 // number; past its end bits read as 0.
 ghost use mathlib.Core.Path.{_≡_};
-ghost use Prim.Native.Nat.{_+_, _-_, _*_, _/_, _%_, _^_, _≤_, _<_};
+ghost use Prim.Native.Nat.{ℕ, _+_, _-_, _*_, _/_, _%_, _^_, _≤_, _<_};
 ghost use lib.ListN.{length};
 ghost use lib.Seq.{sets};
 ghost use Rattle.le.specs.Number.{number, bytesOf, field};
@@ -129,6 +129,15 @@ pub fn lead(s: &[u8], at: usize, w: u64, m: u64) -> u64
         return (u64_at(s, at / 8) >> k) & m;
     }
     nine(s, at) & m
+}
+
+// The field at a place in the last eight bytes, by the mask of its width. Past the end its bits are 0.
+pub fn closing(s: &[u8], at: usize, m: u64) -> u64
+    requires { ⌜ (8 ≤ length (now s)) × (8 * (length (now s) - 8) ≤ at) × (at < 8 * length (now s)) ⌝ }
+    ensures { λ r. ⌜ ((w : ℕ) → m ≡ 2 ^ w - 1 → r ≡ field (number (now (s .entry))) at w) ⌝ }
+{
+    let from = s.len() - 8;
+    (u64_at(s, from) >> ((at - 8 * from) as u64)) & m
 }
 
 // Puts the bytes of x from i to the end, of which there are at most eight.

@@ -1,9 +1,9 @@
--- `column::walk::fill` gives all the values and the place where they end: the first one, then two walks. Assumes nothing.
+-- `column::walk::fill` gives all the values and the place where they end: the first one, then three walks. Nothing is assumed.
 use mathlib.Core.Path.{sym, ap, _∙_}
 use native.Mathlib.Omega.{arith}
 use lib.ListN.{length-set}
 use Rattle.entry.specs.Step.{marker}
-use Rattle.column.proofs.Filling.{filled-all}
+use Rattle.column.proofs.Filling.{went-on, filled-all}
 use borrow.Author.Needs.{needs}
 use Rattle.column.proofs.walk.fill.Statement.{statement}
 use Rattle.column.proofs.walk.fill.Tie as tie
@@ -20,8 +20,8 @@ slice-write-out c = search needs
 fill-inside-requires : tie.Need-fill-inside-requires
 fill-inside-requires c κs = search needs
 
-fill-rest-requires : tie.Need-fill-rest-requires
-fill-rest-requires c κs =
+fill-last-requires : tie.Need-fill-last-requires
+fill-last-requires c κs =
     let st = c .before .before .before .before .before .before .before .before .before in
     let i = c .before .before .before .fill-inside in
     let z = length-set (st .args .out .now) 0 (c .before .before .before .before .before .window .result) in (
@@ -33,22 +33,35 @@ fill-rest-requires c κs =
       omega (arith, i .ensures .bound, st .pre .3),
     )
 
+fill-rest-requires : tie.Need-fill-rest-requires
+fill-rest-requires c κs =
+    let st = c .before .before .before .before .before .before .before .before .before .before .before .before .before in
+    let went = went-on (c .before .before .before .before .before .before .before .fill-inside .ensures) (c .before .before .before .fill-last .ensures) in
+    let z = length-set (st .args .out .now) 0 (c .before .before .before .before .before .before .before .before .before .window .result) in (
+      omega (arith, went .width, st .pre .1),
+      c .before .before .before .before .before .before .before .before .before .before .marker .ensures ∙ ap marker (sym (went .width)),
+      went .most,
+      st .pre .3,
+      omega (arith, st .pre .4, went .same, z),
+      omega (arith, went .bound, st .pre .3),
+    )
+
 same-length : tie.Need-same-length
 same-length c =
-    let args = c .before .before .before .before .before .before .before .before .before .before .before .before .args in
-    let window = c .before .before .before .before .before .before .before .before .window in
-    let fill-inside = c .before .before .before .before .before .before .fill-inside in
-    c .before .before .fill-rest .ensures .0 .same ∙ fill-inside .ensures .same ∙ length-set (args .out .now) 0 (window .result)
+    let st = c .before .before .before .before .before .before .before .before .before .before .before .before .before .before .before .before in
+    let went = went-on (c .before .before .before .before .before .before .before .before .before .before .fill-inside .ensures) (c .before .before .before .before .before .before .fill-last .ensures) in
+    c .before .before .fill-rest .ensures .0 .same ∙ went .same ∙ length-set (st .args .out .now) 0 (c .before .before .before .before .before .before .before .before .before .before .before .before .window .result)
 
 returns : tie.Need-returns
 returns c =
-    let window = c .before .before .before .before .before .before .before .before .window in
-    let st = c .before .before .before .before .before .before .before .before .before .before .before .before in
-    let i = c .before .before .before .before .before .before .fill-inside in
+    let st = c .before .before .before .before .before .before .before .before .before .before .before .before .before .before .before .before in
+    let window = c .before .before .before .before .before .before .before .before .before .before .before .before .window in
+    let k = c .before .before .before .before .before .before .fill-last in
     let r = c .before .before .fill-rest in
-    let f = filled-all 64 (st .args .s .now) (st .args .out .now) (i .last .1 .1 .1 .1 .0) (r .last .1 .1 .1 .1 .0) (st .args .n) (st .args .w) (window .result) (i .result) (r .result)
-    (st .pre .0) (window .ensures) (st .pre .2) (st .pre .4) (i .ensures) (r .ensures .0) (r .ensures .1) in
-    (f .0, f .1, omega (arith, i .ensures .bound, r .ensures .0 .bound, r .ensures .1, st .pre .3))
+    let went = went-on (c .before .before .before .before .before .before .before .before .before .before .fill-inside .ensures) (k .ensures) in
+    let f = filled-all 64 (st .args .s .now) (st .args .out .now) (k .last .1 .1 .1 .1 .0) (r .last .1 .1 .1 .1 .0) (st .args .n) (st .args .w) (window .result) (k .result) (r .result)
+    (st .pre .0) (window .ensures) (st .pre .2) (st .pre .4) went (r .ensures .0) (r .ensures .1) in
+    (f .0, f .1, omega (arith, went .bound, r .ensures .0 .bound, r .ensures .1, st .pre .3))
 
 pub fill-spec : {M : Type 1} → statement M
 fill-spec =
@@ -58,6 +71,7 @@ fill-spec =
     window-requires
     slice-write-out
     fill-inside-requires
+    fill-last-requires
     fill-rest-requires
     same-length
     returns)
