@@ -3,11 +3,11 @@ use mathlib.Core.Path.{_≡_, refl, sym, ap, _∙_}
 use mathlib.Core.Bool.{Bool, true, false, _&&_, and-assoc}
 use mathlib.Core.List.{List, [], _∷_, _++_}
 use Prim.Native.Nat.{ℕ, zero, suc, _+_, _<_}
-use native.Mathlib.Nat.{add-zero, le-of-suc-le-suc}
+use native.Mathlib.Nat.{le-of-suc-le-suc}
 use native.Mathlib.Numerals.{add-one}
 use native.Mathlib.Omega.{arith}
 use lib.ListN.{length, getD, take, drop, take-append-drop}
-use lib.Seq.{drop-cons, getD-drop}
+use lib.Seq.{drop-cons}
 use Rattle.answer.specs.Every.{allOf}
 use Rattle.answer.proofs.Both.{both, both-l, both-r, first-fails, then}
 
@@ -58,10 +58,6 @@ all-imp f g (a ∷ l) h e = both (h a (both-l (f a) (allOf f l) e)) (all-imp f g
 -- as an element does
 pub stands : {A : Type 0} (l : List A) (i : ℕ) (d : A) → i < length l → drop i l ≡ getD l i d ∷ drop (i + 1) l
 stands l i d h = drop-cons l i d h ∙ ap (λ (n : ℕ). getD l i d ∷ drop n l) (sym (add-one i))
-
--- and the other way round
-pub stands-is : {A : Type 0} (l m : List A) (i : ℕ) (a d : A) → drop i l ≡ a ∷ m → getD l i d ≡ a
-stands-is {A} l m i a d q = sym (getD-drop i l 0 d ∙ ap (λ (n : ℕ). getD l n d) (add-zero i)) ∙ ap (λ (x : List A). getD x 0 d) q
 
 module _ {A : Type 0} (f : A → Bool) (l : List A) (i : ℕ) (a : A) (q : drop i l ≡ a ∷ drop (i + 1) l) where
   split : allOf f (drop i l) ≡ (f a && allOf f (drop (i + 1) l))

@@ -79,11 +79,6 @@ floats-patterns p w f i = record {
   greatest-y = bits-back (p .greatest-y) (w .greatest-y) (f .greatest-y) i;
 }
 
-pub good-patterns : (p : Bounds) (b : Box) → Words p → formOf p ≡ Good b → patterns b ≡ p
-good-patterns p b w e =
-    let g = form-good p b e in
-    ap patterns (g .1) ∙ floats-patterns p w (good-finite p (g .0))
-
 -- the floats of a box's patterns: two boxes with the same patterns are one
 pub floats-back : (b : Box) → FitsBox b → floatsOf (patterns b) ≡ b
 floats-back b f i = record {

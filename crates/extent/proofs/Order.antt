@@ -1,17 +1,13 @@
 -- IEEE's `<`, `==` and `<=` of two finite floats are the orders of their patterns' ranks. Assumes nothing.
 use mathlib.Core.Path.{_≡_, sym, ap, _∙_}
 use mathlib.Core.Bool.{Bool, true, _||_}
-use Prim.Native.Nat.{ℕ, _%_, _^_, _≤_, _<_}
-use lib.Dec.{T, leb, ltb, eqb}
+use Prim.Native.Nat.{ℕ, _%_, _^_}
+use lib.Dec.{T, leb}
 use lib.Ieee.{Float, binary64, lt, eq, le, fits, ofBits, toBits}
-use lib.Ieee.Exact.{HasValue}
 use lib.Ieee.Bits.{ofBits-toBits}
 use Rattle.extent.specs.Rank.{rank, finite, atMost, below, sameValue}
-use Rattle.extent.proofs.Tests.{lt-or-eq}
-use Rattle.extent.proofs.Fractions.{lt-values, eq-values}
 use Rattle.extent.proofs.Patterns.{lt-bits, eq-bits, finite-size}
 use Rattle.extent.proofs.Signs.{below-signed, level-signed, le-split}
-use Rattle.extent.proofs.Keys.{keyOf, below-at, level-at}
 
 -- ---- the floats of two finite patterns
 pub lt-rank : (a b : ℕ) → finite a ≡ true → finite b ≡ true → lt (ofBits binary64 a) (ofBits binary64 b) ≡ below a b
@@ -43,17 +39,3 @@ module _ (x y : Float) (fx : T (fits binary64 x)) (fy : T (fits binary64 y)) (p 
 
   pub eq-float : eq x y ≡ sameValue (toBits binary64 x) (toBits binary64 y)
   eq-float = through eq ∙ eq-rank (toBits binary64 x) (toBits binary64 y) p q
-
--- ---- two values by any fractions a / L and b / L that they equal; h is any number that both are within
-pub le-at : (x y : Float) (s t : Bool) (a b L h : ℕ) → 0 < L → a ≤ h → b ≤ h → HasValue x s a L → HasValue y t b L → le x y ≡ leb (keyOf h s a) (keyOf h t b)
-unfolding le
-le-at x y s t a b L h PL p q v w =
-    ap (λ (z : Bool). z || eq x y) (lt-values x y s t a b L PL v w ∙ below-at h s t a b p q)
-    ∙ ap (λ (z : Bool). ltb (keyOf h s a) (keyOf h t b) || z) (eq-values x y s t a b L PL v w ∙ level-at h s t a b p q)
-    ∙ lt-or-eq (keyOf h s a) (keyOf h t b)
-
-pub lt-at : (x y : Float) (s t : Bool) (a b L h : ℕ) → 0 < L → a ≤ h → b ≤ h → HasValue x s a L → HasValue y t b L → lt x y ≡ ltb (keyOf h s a) (keyOf h t b)
-lt-at x y s t a b L h PL p q v w = lt-values x y s t a b L PL v w ∙ below-at h s t a b p q
-
-pub eq-at : (x y : Float) (s t : Bool) (a b L h : ℕ) → 0 < L → a ≤ h → b ≤ h → HasValue x s a L → HasValue y t b L → eq x y ≡ eqb (keyOf h s a) (keyOf h t b)
-eq-at x y s t a b L h PL p q v w = eq-values x y s t a b L PL v w ∙ level-at h s t a b p q

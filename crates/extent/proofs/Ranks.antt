@@ -1,6 +1,6 @@
 -- The order of values. Assumes nothing.
 use mathlib.Core.Path.{_≡_, refl, sym, ap, _∙_, subst}
-use mathlib.Core.Bool.{true, false, not}
+use mathlib.Core.Bool.{true, false}
 use Prim.Native.Nat.{ℕ, _^_}
 use native.Mathlib.Nat.{le-trans, le-refl, le-of-eq, le-of-lt, lt-of-lt-of-le, lt-of-le-of-lt}
 use native.Mathlib.Omega.{arith}
@@ -9,7 +9,6 @@ use lib.Dec.{T}
 use lib.IntN.{ℤ, pos, negsuc}
 use Rattle.answer.proofs.Both.{not-true}
 use Rattle.extent.specs.Rank.{rank, eqZ, atMost, below, sameValue}
-use Rattle.extent.proofs.Signs.{le-not-above}
 use Rattle.extent.proofs.Keys.{key, at-most-le, le-at-most, below-lt, lt-below, not-below-le, same-eq, eq-same}
 
 -- ---- at most, and below
@@ -35,14 +34,6 @@ below-not-itself a e = let h = below-lt a a e in omega arith
 -- at most is not above
 pub not-below : (a b : ℕ) → below a b ≡ false → atMost b a ≡ true
 not-below a b e = le-at-most b a (not-below-le a b e)
-
-pub at-most-not : (a b : ℕ) → atMost a b ≡ not (below b a)
-unfolding atMost below
-at-most-not a b = le-not-above (rank a) (rank b)
-
--- at most both ways is the same value
-pub same-of : (a b : ℕ) → atMost a b ≡ true → atMost b a ≡ true → sameValue a b ≡ true
-same-of a b p q = eq-same a b (let h = at-most-le a b p in let k = at-most-le b a q in omega arith)
 
 -- what is below is not the same
 pub below-not-same : (a b : ℕ) → below a b ≡ true → sameValue a b ≡ false

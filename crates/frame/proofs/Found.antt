@@ -21,7 +21,6 @@ use Rattle.frame.specs.declared.cursor.Cursor.{Cursor}
 use Rattle.frame.specs.declared.cursor.PageAt.{PageAt}
 use Rattle.frame.specs.Head.{headOf}
 use Rattle.frame.specs.Step.{part, Turn, page, end, past, firstStep, firstOf, pageStep, endStep, kindStep, stepOf, endsAt}
-use Rattle.frame.proofs.Heads.{Headed, head-is}
 use Rattle.frame.proofs.Steps.{page-good, end-good, kind-page, kind-end, step-found, first-good, first-found, page-not-end, page-inj}
 
 -- ---- a block
@@ -161,10 +160,6 @@ module _ (s : List ℕ) (c : Cursor) where
       (λ (k : (q : PageAt) × (page p ≡ page q) × Paged s c q). subst (Paged s c) (sym (page-inj (k .1))) (k .2))
       (λ (k : (page p ≡ end) × Ended s c). absurd (page-not-end (k .0)))
       (step-is (page p) e)
-
-  -- with what its head says of its body
-  pub page-headed : (p : PageAt) → stepOf s c ≡ ok (page p) → Headed (c .edition) (part s (p .body) (p .len)) (p .head)
-  page-headed p e = head-is (c .edition) (part s (p .body) (p .len)) (p .head) (page-is p e .headed)
 
   pub end-is : stepOf s c ≡ ok end → Ended s c
   end-is e =

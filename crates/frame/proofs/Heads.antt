@@ -12,17 +12,17 @@ use Rattle.answer.specs.Outcome.{refused, ok}
 use Rattle.answer.proofs.Outcomes.{ok-inj, met, unmet, need-ok}
 use Rattle.le.specs.Number.{numberAt, Bytes}
 use Rattle.le.proofs.Numbers.{number-at-lt}
-use Rattle.extent.specs.Boxes.{boundsAt, FiniteBox, patterns, goodForm, Words}
+use Rattle.extent.specs.Boxes.{boundsAt, FiniteBox, patterns, Words}
 use Rattle.extent.specs.Forms.{floatsOf}
 use Rattle.extent.specs.declared.boxes.Box.{Box}
 use Rattle.extent.proofs.Forms.{floats-patterns}
 use Rattle.frame.specs.declared.layout.Layout.{Layout}
 use Rattle.frame.specs.declared.head.Head.{Head}
 use Rattle.frame.specs.Layout.{layoutOf}
-use Rattle.frame.specs.Head.{countsOk, allZero, boxOk, sizedHead, headOf}
+use Rattle.frame.specs.Head.{countsOk, boxOk, sizedHead, headOf}
 use Rattle.frame.proofs.Layouts.{columns-at, columns-le, sizes-from}
 use Rattle.frame.proofs.Counts.{Limits, counts-limits}
-use Rattle.frame.proofs.Forms.{box-none, box-some, box-finite}
+use Rattle.frame.proofs.Forms.{box-finite}
 
 -- ---- the ways through `headOf`
 
@@ -129,13 +129,6 @@ module _ (edition : ℕ) (b : List ℕ) (h : Head) where
 
     pub head-finite : FiniteBox (boundsAt b 6)
     head-finite = box-finite (h .v) (boundsAt b 6) (k .form)
-
-    -- with no vertex all zero bytes, else finite and not reversed
-    pub head-zero : h .v ≡ 0 → allZero (boundsAt b 6) ≡ true
-    head-zero z = sym (box-none (h .v) (boundsAt b 6) z) ∙ k .form
-
-    pub head-good : (h .v ≡ 0 → ⊥) → goodForm (boundsAt b 6) ≡ true
-    head-good n = sym (box-some (h .v) (boundsAt b 6) n) ∙ k .form
 
     -- the body reaches to the columns
     pub head-reaches : 46 ≤ length b

@@ -56,14 +56,6 @@ module _ (kind : ℕ) (body : List ℕ) where
     pub put-body : part s (at + 6) (length body) ≡ body
     put-body = ap (take (length body)) behind-head ∙ take-at body rest (length body) refl
 
-    pub put-rest : drop (at + 6 + length body) s ≡ rest
-    put-rest =
-        let n : length body ≡ length body + 0 = omega arith in
-        sym (drop-drop (length body) (at + 6) s)
-        ∙ ap (drop (length body)) behind-head
-        ∙ ap (λ (k : ℕ). drop k (body ++ rest)) n
-        ∙ drop-append-add body rest 0
-
     pub put-stands : kind < 2 ^ 16 → length body < 2 ^ 32 → Stands s at kind (at + 6) (length body)
     put-stands a b =
         let h = blockHead (length body) kind in

@@ -2,11 +2,11 @@
 use mathlib.Core.Path.{_≡_, refl, sym, ap, _∙_}
 use mathlib.Core.Bool.{true, _&&_, false≢true}
 use mathlib.Core.List.{List, [], _∷_}
-use Prim.Native.Nat.{ℕ, zero, suc, _≤_, _<_}
+use Prim.Native.Nat.{ℕ, zero, suc, _≤_}
 use native.Mathlib.Omega.{arith}
 use borrow.Author.Tests.{leb-true, le-leb, eqb-true}
 use lib.Dec.{leb, eqb}
-use lib.ListN.{length, getD, take, drop, length-drop, take-append-drop}
+use lib.ListN.{length, take, drop, length-drop, take-append-drop}
 use Rattle.answer.specs.Table.{parts}
 use Rattle.answer.specs.Outcome.{ok}
 use Rattle.answer.proofs.Rules.{rule-ok}
@@ -15,7 +15,7 @@ use Rattle.types.specs.declared.rows.Row.{Row}
 use Rattle.answer.specs.Every.{allOf}
 use Rattle.types.specs.Types.{typeRow}
 use Rattle.types.specs.Parts.{total, fits, lengthsFit, rowAgrees, shapeAgrees, partsAgree, partsHold, partsRule}
-use Rattle.answer.proofs.Alls.{all-none, all-append, all-at, all-imp}
+use Rattle.answer.proofs.Alls.{all-none, all-append, all-imp}
 use Rattle.types.proofs.Tabled.{one-vertex}
 
 -- the rule that lets pass
@@ -61,11 +61,6 @@ shape-says t c lens e =
       there = leb-true c (length lens) (both-l (leb c (length lens)) (lengthsFit r (take c lens)) own);
       lengths = both-r (leb c (length lens)) (lengthsFit r (take c lens)) own;
     }
-
--- each of its parts has as many vertices as its row says
-pub part-fits : (r : Row) (lens : List ℕ) (i : ℕ) → lengthsFit r lens ≡ true → i < length lens → fits (r .least) (r .most) (getD lens i 0) ≡ true
-unfolding lengthsFit
-part-fits r lens i e h = all-at (fits (r .least) (r .most)) lens i 0 e h
 
 -- ---- the shapes of a page
 

@@ -31,9 +31,6 @@ total-split k l = sym (ap total (take-append-drop k l)) ∙ total-append (take k
 pub total-take-le : (k : ℕ) (l : List ℕ) → total (take k l) ≤ total l
 total-take-le k l = omega (arith, total-split k l)
 
-pub total-drop-le : (k : ℕ) (l : List ℕ) → total (drop k l) ≤ total l
-total-drop-le k l = omega (arith, total-split k l)
-
 -- ---- the walk
 
 -- the one at i and those after it
