@@ -34,20 +34,21 @@ pub fn u16_at(s: &[u8], at: usize) -> usize
     two(s[at], s[at + 1])
 }
 
-// The number of the four bytes from place at on: two and two.
+// The number of the four bytes from place at on: two and two, the lower first.
 pub fn u32_at(s: &[u8], at: usize) -> usize
     requires { ⌜ at + 4 ≤ length (now s) ⌝ }
     ensures { λ r. ⌜ (r ≡ numberAt 4 (now (s .entry)) at) × (r < 4294967296) ⌝ }
 {
-    u16_at(s, at + 2) * 0x1_0000 + u16_at(s, at)
+    u16_at(s, at) + u16_at(s, at + 2) * 0x1_0000
 }
 
-// The number of the eight bytes from place at on: four and four, which the compiler makes one load.
+// The number of the eight bytes from place at on: four and four, the lower first, which the compiler makes one load on each machine. (With the higher
+// first it makes eight on Arm.)
 pub fn u64_at(s: &[u8], at: usize) -> u64
     requires { ⌜ at + 8 ≤ length (now s) ⌝ }
     ensures { λ r. ⌜ r ≡ numberAt 8 (now (s .entry)) at ⌝ }
 {
-    (u32_at(s, at + 4) as u64) * 0x1_0000_0000 + (u32_at(s, at) as u64)
+    (u32_at(s, at) as u64) + (u32_at(s, at + 4) as u64) * 0x1_0000_0000
 }
 
 // Puts the two low bytes of x from place at on; the rest stays.

@@ -6,17 +6,17 @@ use Rattle.le.proofs.Numbers.{number-at-join, number-at-lt}
 use Rattle.le.proofs.number.u32_at.Statement.{statement}
 use Rattle.le.proofs.number.u32_at.Tie as tie
 
-add-u16-at : tie.Need-add-u16-at
-add-u16-at c = search needs
-
 u16-at-requires : tie.Need-u16-at-requires
 u16-at-requires c κs = search needs
 
-mul-result : tie.Need-mul-result
-mul-result c = omega (arith, c .u16-at .ensures)
+add-u16-at : tie.Need-add-u16-at
+add-u16-at c = search needs
 
 u16-at-requires-2 : tie.Need-u16-at-requires-2
 u16-at-requires-2 c κs = search needs
+
+mul-result : tie.Need-mul-result
+mul-result c = omega (arith, c .u16-at2 .ensures)
 
 add-result : tie.Need-add-result
 add-result c = omega (arith, c .before .u16-at .ensures, c .u16-at2 .ensures)
@@ -29,4 +29,4 @@ returns c =
 
 pub u32-at-spec : {M : Type 1} → statement M
 u32-at-spec =
-    tie.close (tie.spec add-u16-at u16-at-requires mul-result u16-at-requires-2 add-result returns)
+    tie.close (tie.spec u16-at-requires add-u16-at u16-at-requires-2 mul-result add-result returns)

@@ -6,17 +6,17 @@ use Rattle.le.proofs.Numbers.{number-at-join, number-at-lt}
 use Rattle.le.proofs.number.u64_at.Statement.{statement}
 use Rattle.le.proofs.number.u64_at.Tie as tie
 
-add-u32-at : tie.Need-add-u32-at
-add-u32-at c = search needs
-
 u32-at-requires : tie.Need-u32-at-requires
 u32-at-requires c κs = search needs
 
-mul-result : tie.Need-mul-result
-mul-result c = omega (arith, c .u32-at .ensures)
+add-u32-at : tie.Need-add-u32-at
+add-u32-at c = search needs
 
 u32-at-requires-2 : tie.Need-u32-at-requires-2
 u32-at-requires-2 c κs = search needs
+
+mul-result : tie.Need-mul-result
+mul-result c = omega (arith, c .u32-at2 .ensures)
 
 add-result : tie.Need-add-result
 add-result c = omega (arith, c .before .u32-at .ensures, c .u32-at2 .ensures)
@@ -29,4 +29,4 @@ returns c =
 
 pub u64-at-spec : {M : Type 1} → statement M
 u64-at-spec =
-    tie.close (tie.spec add-u32-at u32-at-requires mul-result u32-at-requires-2 add-result returns)
+    tie.close (tie.spec u32-at-requires add-u32-at u32-at-requires-2 mul-result add-result returns)
