@@ -42,7 +42,7 @@ box-holds xs ys i h l =
     record { from-x = b .least-x .best i h; to-x = b .greatest-x .best i h; from-y = b .least-y .best i k; to-y = b .greatest-y .best i k }
 
 -- what was met in a list of finite patterns is finite
-met-finite : (R S : ℕ → ℕ → Type 0) (l : List ℕ) (v : ℕ) → allFinite l ≡ true → Met R S l v → finite v ≡ true
+pub met-finite : (R S : ℕ → ℕ → Type 0) (l : List ℕ) (v : ℕ) → allFinite l ≡ true → Met R S l v → finite v ≡ true
 met-finite R S l v f m = ap finite (m .found) ∙ all-at finite l (m .place) 0 f (m .inside)
 
 pub box-finite : (xs ys : List ℕ) → 0 < length xs → 0 < length ys → allFinite xs ≡ true → allFinite ys ≡ true → FiniteBox (boxOf xs ys)

@@ -1,9 +1,9 @@
 -- Finite patterns: of a choice, of a box. Assumes nothing.
-use mathlib.Core.Path.{_≡_}
+use mathlib.Core.Path.{_≡_, refl}
 use mathlib.Core.Bool.{Bool, true, false, cond}
 use Prim.Native.Nat.{ℕ}
 use Rattle.extent.specs.Rank.{finite, below}
-use Rattle.extent.specs.Boxes.{Bounds, FiniteBox, fourFinite, lesser, greater, withVertex}
+use Rattle.extent.specs.Boxes.{Bounds, FiniteBox, fourFinite, greater, spotOf}
 use Rattle.extent.proofs.Tests.{all-four, four-all}
 
 -- ---- choices
@@ -12,10 +12,6 @@ use Rattle.extent.proofs.Tests.{all-four, four-all}
 pub chosen : (P : ℕ → Type 0) (t : Bool) (x a : ℕ) → P x → P a → P (cond t x a)
 chosen P true x a p q = p
 chosen P false x a p q = q
-
-pub lesser-has : (P : ℕ → Type 0) (a x : ℕ) → P a → P x → P (lesser a x)
-unfolding lesser
-lesser-has P a x p q = chosen P (below x a) x a q p
 
 pub greater-has : (P : ℕ → Type 0) (a x : ℕ) → P a → P x → P (greater a x)
 unfolding greater
@@ -36,11 +32,7 @@ four-finite p f = four-all _ _ _ _ (f .least-x) (f .least-y) (f .greatest-x) (f 
 abbrev pub IsFinite : ℕ → Type 0
 IsFinite b = finite b ≡ true
 
--- a box with one vertex more
-pub grown-finite : (p : Bounds) (x y : ℕ) → FiniteBox p → finite x ≡ true → finite y ≡ true → FiniteBox (withVertex p x y)
-grown-finite p x y f u v = record {
-  least-x = lesser-has IsFinite (p .least-x) x (f .least-x) u;
-  least-y = lesser-has IsFinite (p .least-y) y (f .least-y) v;
-  greatest-x = greater-has IsFinite (p .greatest-x) x (f .greatest-x) u;
-  greatest-y = greater-has IsFinite (p .greatest-y) y (f .greatest-y) v;
-}
+-- four zeros
+pub zeros-finite : FiniteBox (spotOf 0 0)
+unfolding finite
+zeros-finite = record { least-x = refl; least-y = refl; greatest-x = refl; greatest-y = refl }

@@ -35,19 +35,15 @@ spot-good x y f g =
     order-good (spotOf x y) (four-finite (spotOf x y) (record { least-x = f; least-y = g; greatest-x = f; greatest-y = g }))
     (unfold inOrder in both (at-most-refl x) (at-most-refl y))
 
--- ---- the three ends of the code
+-- ---- the two ends of the code
 
-pub form-made : (p : Bounds) (b : Box) → fourFinite p ≡ true → inOrder p ≡ true → b ≡ floatsOf p → Good b ≡ formOf p
-unfolding formOf goodForm
-form-made p b f o e = simp (f, o) (ap Good e)
+pub form-made : (p : Bounds) (b : Box) → goodForm p ≡ true → b ≡ floatsOf p → Good b ≡ formOf p
+unfolding formOf
+form-made p b g e = simp g (ap Good e)
 
-pub form-reversed : (p : Bounds) → fourFinite p ≡ true → inOrder p ≡ false → Bad ≡ formOf p
-unfolding formOf goodForm
-form-reversed p f o = simp (f, o)
-
-pub form-not-finite : (p : Bounds) → fourFinite p ≡ false → Bad ≡ formOf p
-unfolding formOf goodForm
-form-not-finite p f = simp f
+pub form-not-good : (p : Bounds) → goodForm p ≡ false → Bad ≡ formOf p
+unfolding formOf
+form-not-good p g = simp g
 
 -- ---- what an answer says
 

@@ -4,23 +4,15 @@ use mathlib.Core.Path.{_≡_, sym, ap, _∙_}
 use mathlib.Core.Bool.{Bool, true, false, not, _&&_, _||_}
 use Prim.Native.Nat.{ℕ, _+_, _-_, _%_, _^_, _≤_, _<_}
 use native.Mathlib.Omega.{arith}
-use borrow.Author.Tests.{ltb-true, ltb-false, leb-true, eqb-true, lt-ltb, le-leb, eq-eqb}
+use borrow.Author.Tests.{ltb-true, ltb-false, leb-true, eqb-true, lt-ltb, le-leb, lt-leb, eq-eqb}
 use lib.Dec.{T, leb, ltb, eqb, ltb→lt, eqb→eq}
 use lib.IntN.{ℤ, pos, negℤ, _+ℤ_, +ℤ-comm, +ℤ-assoc, +ℤ-invr, +ℤ-idr}
 use lib.Ieee as Ieee
 use lib.Ieee.{level}
 use lib.Ieee.Fits.{and-i, and-l, and-r}
-use Rattle.extent.specs.Rank.{signed, rank, atMost, below, sameValue}
+use Rattle.extent.specs.Rank.{signed, rank, keyOf, key, atMost, below, sameValue}
 use Rattle.extent.proofs.Tests.{same-test, eq→eqb, ltb-same, le-not-lt}
 use Rattle.extent.proofs.Signs.{below-signed, level-signed, le-not-above}
-
--- of a sign and a size n ≤ h
-abbrev pub keyOf : ℕ → Bool → ℕ → ℕ
-keyOf h false n = h + n
-keyOf h true n = h - n
-
-unfoldable pub key : ℕ → ℕ
-key b = keyOf (2 ^ 63) (leb (2 ^ 63) b) (b % 2 ^ 63)
 
 -- ---- IEEE's order of a sign and a size is that of the keys
 pub below-at : (h : ℕ) (s t : Bool) (n m : ℕ) → n ≤ h → m ≤ h → Ieee.below s n t m ≡ ltb (keyOf h s n) (keyOf h t m)
@@ -101,6 +93,22 @@ pub key-is : (b : ℕ) → pos (key b) ≡ rank b +ℤ pos (2 ^ 63)
 unfolding key rank
 key-is b = key-at (2 ^ 63) (leb (2 ^ 63) b) (b % 2 ^ 63) (small b)
 
+-- ---- the key of a pattern, by its sign bit
+
+pub key-plus : (b : ℕ) → b < 2 ^ 63 → key b ≡ b + 2 ^ 63
+unfolding key
+key-plus b h = ap (λ (s : Bool). keyOf (2 ^ 63) s (b % 2 ^ 63)) (lt-leb (2 ^ 63) b h) ∙ sum
+  where
+    sum : 2 ^ 63 + b % 2 ^ 63 ≡ b + 2 ^ 63
+    sum = omega arith
+
+pub key-minus : (b : ℕ) → 2 ^ 63 ≤ b → b < 2 ^ 64 → key b ≡ 2 ^ 64 - b
+unfolding key
+key-minus b h k = ap (λ (s : Bool). keyOf (2 ^ 63) s (b % 2 ^ 63)) (le-leb (2 ^ 63) b h) ∙ rest
+  where
+    rest : 2 ^ 63 - b % 2 ^ 63 ≡ 2 ^ 64 - b
+    rest = omega arith
+
 -- ---- values compare as keys
 below-key : (a b : ℕ) → below a b ≡ ltb (key a) (key b)
 unfolding below rank key
@@ -109,14 +117,14 @@ below-key a b =
     let t = leb (2 ^ 63) b in
     sym (below-signed s t (a % 2 ^ 63) (b % 2 ^ 63)) ∙ below-at (2 ^ 63) s t (a % 2 ^ 63) (b % 2 ^ 63) (small a) (small b)
 
-same-key : (a b : ℕ) → sameValue a b ≡ eqb (key a) (key b)
+pub same-key : (a b : ℕ) → sameValue a b ≡ eqb (key a) (key b)
 unfolding sameValue rank key
 same-key a b =
     let s = leb (2 ^ 63) a in
     let t = leb (2 ^ 63) b in
     sym (level-signed s t (a % 2 ^ 63) (b % 2 ^ 63)) ∙ level-at (2 ^ 63) s t (a % 2 ^ 63) (b % 2 ^ 63) (small a) (small b)
 
-at-most-key : (a b : ℕ) → atMost a b ≡ leb (key a) (key b)
+pub at-most-key : (a b : ℕ) → atMost a b ≡ leb (key a) (key b)
 at-most-key a b = unfold atMost below in le-not-above (rank a) (rank b) ∙ ap not (below-key b a) ∙ sym (le-not-lt (key a) (key b))
 
 pub at-most-le : (a b : ℕ) → atMost a b ≡ true → key a ≤ key b

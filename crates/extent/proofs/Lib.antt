@@ -7,7 +7,6 @@ pub mod Keys
 pub mod Order
 pub mod Ranks
 pub mod Finite
-pub mod Boxing
 pub mod Firsts
 pub mod Forms
 pub mod Boxed
@@ -15,3 +14,8 @@ pub mod Meeting
 pub mod Sames
 pub mod Within
 pub mod Floats
+pub mod Axes
+pub mod Carrying
+pub mod Spanning
+pub mod Zeros
+pub mod Spanned

@@ -1,10 +1,9 @@
 -- IEEE's `<`, `==` and `<=` of two finite floats are the orders of their patterns' ranks. Assumes nothing.
-use mathlib.Core.Path.{_≡_, sym, ap, _∙_}
+use mathlib.Core.Path.{_≡_, ap, _∙_}
 use mathlib.Core.Bool.{Bool, true, _||_}
 use Prim.Native.Nat.{ℕ, _%_, _^_}
-use lib.Dec.{T, leb}
-use lib.Ieee.{Float, binary64, lt, eq, le, fits, ofBits, toBits}
-use lib.Ieee.Bits.{ofBits-toBits}
+use lib.Dec.{leb}
+use lib.Ieee.{binary64, lt, eq, le, ofBits}
 use Rattle.extent.specs.Rank.{rank, finite, atMost, below, sameValue}
 use Rattle.extent.proofs.Patterns.{lt-bits, eq-bits, finite-size}
 use Rattle.extent.proofs.Signs.{below-signed, level-signed, le-split}
@@ -25,17 +24,3 @@ at-most-split a b = le-split (rank a) (rank b)
 pub le-rank : (a b : ℕ) → finite a ≡ true → finite b ≡ true → le (ofBits binary64 a) (ofBits binary64 b) ≡ atMost a b
 unfolding le
 le-rank a b p q = ap (λ (x : Bool). x || eq (ofBits binary64 a) (ofBits binary64 b)) (lt-rank a b p q) ∙ ap (λ (x : Bool). below a b || x) (eq-rank a b p q) ∙ at-most-split a b
-
--- ---- two floats that a program holds, by their own patterns
-module _ (x y : Float) (fx : T (fits binary64 x)) (fy : T (fits binary64 y)) (p : finite (toBits binary64 x) ≡ true) (q : finite (toBits binary64 y) ≡ true) where
-  through : (f : Float → Float → Bool) → f x y ≡ f (ofBits binary64 (toBits binary64 x)) (ofBits binary64 (toBits binary64 y))
-  through f = ap (λ (z : Float). f z y) (sym (ofBits-toBits binary64 x fx)) ∙ ap (λ (z : Float). f (ofBits binary64 (toBits binary64 x)) z) (sym (ofBits-toBits binary64 y fy))
-
-  pub le-float : le x y ≡ atMost (toBits binary64 x) (toBits binary64 y)
-  le-float = through le ∙ le-rank (toBits binary64 x) (toBits binary64 y) p q
-
-  pub lt-float : lt x y ≡ below (toBits binary64 x) (toBits binary64 y)
-  lt-float = through lt ∙ lt-rank (toBits binary64 x) (toBits binary64 y) p q
-
-  pub eq-float : eq x y ≡ sameValue (toBits binary64 x) (toBits binary64 y)
-  eq-float = through eq ∙ eq-rank (toBits binary64 x) (toBits binary64 y) p q

@@ -8,8 +8,8 @@ use borrow.Author.Tests.{eqb-true, eq-eqb}
 use lib.Dec.{T}
 use lib.IntN.{ℤ, pos, negsuc}
 use Rattle.answer.proofs.Both.{not-true}
-use Rattle.extent.specs.Rank.{rank, eqZ, atMost, below, sameValue}
-use Rattle.extent.proofs.Keys.{key, at-most-le, le-at-most, below-lt, lt-below, not-below-le, same-eq, eq-same}
+use Rattle.extent.specs.Rank.{rank, key, eqZ, atMost, below, sameValue}
+use Rattle.extent.proofs.Keys.{at-most-le, le-at-most, below-lt, lt-below, not-below-le, same-eq, eq-same}
 
 -- ---- at most, and below
 

@@ -1,13 +1,13 @@
 -- Two boxes that are the same in value: each covers the other, so that the same boxes meet them. Assumes nothing.
-use mathlib.Core.Path.{_≡_, refl}
+use mathlib.Core.Path.{_≡_, refl, _∙_}
 use mathlib.Core.Bool.{true}
 use Prim.Native.Nat.{ℕ}
 use Rattle.extent.specs.Rank.{sameValue}
 use Rattle.extent.specs.Boxes.{Bounds, sameBox, meets}
 use Rattle.extent.proofs.Tests.{same-test, T-true, true-T, all-four, four-all}
-use Rattle.extent.proofs.Ranks.{rank-same, same-at-most, same-sym}
+use Rattle.extent.proofs.Ranks.{same-rank, rank-same, same-at-most, same-sym}
 use Rattle.extent.proofs.Boxed.{Covers}
-use Rattle.extent.proofs.Meeting.{covers-meets}
+use Rattle.extent.proofs.Meeting.{meets-sym, covers-meets}
 
 -- one by one
 pub record Sames (p q : Bounds) : Type 0 where
@@ -60,3 +60,27 @@ same-meets p q r e =
     same-test (meets p r) (meets q r)
     (λ t. T-true (covers-meets q p r (same-covers q p (same-box-sym p q e)) (true-T (meets p r) t)))
     (λ t. T-true (covers-meets p q r (same-covers p q e) (true-T (meets q r) t)))
+
+pub same-met : (r p q : Bounds) → sameBox p q ≡ true → meets r p ≡ meets r q
+same-met r p q e = meets-sym r p ∙ same-meets p q r e ∙ meets-sym q r
+
+-- and they are the same as the same boxes
+same-on : (a b c : ℕ) → sameValue a b ≡ true → sameValue b c ≡ true → sameValue a c ≡ true
+same-on a b c e g = rank-same a c (same-rank a b e ∙ same-rank b c g)
+
+box-on : (r p q : Bounds) → sameBox r p ≡ true → sameBox p q ≡ true → sameBox r q ≡ true
+box-on r p q e g =
+    let s = same-four r p e in
+    let t = same-four p q g in
+    four-same r q (record {
+      least-x = same-on (r .least-x) (p .least-x) (q .least-x) (s .least-x) (t .least-x);
+      least-y = same-on (r .least-y) (p .least-y) (q .least-y) (s .least-y) (t .least-y);
+      greatest-x = same-on (r .greatest-x) (p .greatest-x) (q .greatest-x) (s .greatest-x) (t .greatest-x);
+      greatest-y = same-on (r .greatest-y) (p .greatest-y) (q .greatest-y) (s .greatest-y) (t .greatest-y);
+    })
+
+pub same-same : (r p q : Bounds) → sameBox p q ≡ true → sameBox r p ≡ sameBox r q
+same-same r p q e =
+    same-test (sameBox r p) (sameBox r q)
+    (λ t. T-true (box-on r p q (true-T (sameBox r p) t) e))
+    (λ t. T-true (box-on r q p (true-T (sameBox r q) t) (same-box-sym p q e)))

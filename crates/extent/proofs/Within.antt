@@ -9,9 +9,9 @@ use lib.Ieee.{Float, nan, inf, fin, binary64, lt, eq, le, fits, ofBits, toBits}
 use lib.Ieee.Scale as Scale
 use lib.Ieee.Bits.{ofBits-toBits}
 use Rattle.answer.proofs.Both.{no-both}
-use Rattle.extent.specs.Rank.{finite, atMost}
+use Rattle.extent.specs.Rank.{finite, keyOf, key, atMost}
 use Rattle.extent.proofs.Patterns.{finite-size, bits-finite, bits-not-finite}
-use Rattle.extent.proofs.Keys.{keyOf, key, le-at-most}
+use Rattle.extent.proofs.Keys.{le-at-most}
 use Rattle.extent.proofs.Order.{le-rank}
 
 -- the patterns of the two

@@ -117,15 +117,6 @@ greatestOf a (x ∷ xs) = greatestOf (greater a x) xs
 abbrev pub spotOf : ℕ → ℕ → Bounds
 spotOf x y = record { least-x = x; least-y = y; greatest-x = x; greatest-y = y }
 
--- a box with one vertex more, for the inner walk that makes a box; no service speaks of it
-abbrev pub withVertex : Bounds → ℕ → ℕ → Bounds
-withVertex p x y = record {
-  least-x = lesser (p .least-x) x;
-  least-y = lesser (p .least-y) y;
-  greatest-x = greater (p .greatest-x) x;
-  greatest-y = greater (p .greatest-y) y;
-}
-
 -- a box with more vertices, by their x and their y
 abbrev pub withAll : Bounds → List ℕ → List ℕ → Bounds
 withAll p xs ys = record {

@@ -1,6 +1,6 @@
 -- Order of finite values: a pattern with sign bit 0 has as its rank its low 63 bits, with sign bit 1 minus those; values compare as ranks.
 -- So both zeros are equal. A pattern is a number below 2 ^ 64. Assumes nothing.
-use Prim.Native.Nat.{ℕ, _/_, _%_, _^_}
+use Prim.Native.Nat.{ℕ, _+_, _-_, _/_, _%_, _^_}
 use mathlib.Core.Bool.{Bool, true, false}
 use mathlib.Core.List.{List}
 use lib.Dec.{leb, ltb, eqb}
@@ -43,3 +43,14 @@ below a b = ltZ (rank a) (rank b)
 -- it is that of b
 unfoldable pub sameValue : ℕ → ℕ → Bool
 sameValue a b = eqZ (rank a) (rank b)
+
+-- ---- the key of a pattern: its rank raised by 2 ^ 63, a natural number in the same order, by which the code decides; no service speaks of it
+
+-- of a sign and a size n ≤ h: h more than n, or than minus n
+abbrev pub keyOf : ℕ → Bool → ℕ → ℕ
+keyOf h false n = h + n
+keyOf h true n = h - n
+
+-- by the sign bit and the low 63 bits
+unfoldable pub key : ℕ → ℕ
+key b = keyOf (2 ^ 63) (leb (2 ^ 63) b) (b % 2 ^ 63)

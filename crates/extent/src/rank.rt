@@ -2,7 +2,7 @@
 ghost use mathlib.Core.Path.{_≡_};
 ghost use mathlib.Core.Bool.{true};
 ghost use lib.Ieee.{binary64, ofBits};
-ghost use Rattle.extent.specs.Rank.{finite, allFinite};
+ghost use Rattle.extent.specs.Rank.{finite};
 ghost use Rattle.extent.specs.Boxes.{patternOf};
 
 // Neither an infinity nor a NaN: the exponent's field is below 2047.
@@ -26,21 +26,6 @@ pub fn bits_of(x: f64) -> u64
     ensures { λ r. ⌜ r ≡ patternOf x ⌝ }
 {
     f64::to_bits(x)
-}
-
-// Whether all patterns are finite.
-pub fn all_finite(vs: &[u64]) -> bool
-    ensures { λ r. ⌜ r ≡ allFinite (now (vs .entry)) ⌝ }
-{
-    let mut i: usize = 0;
-    while i < vs.len() {
-        if finite(vs[i]) {
-            i += 1;
-        } else {
-            return false;
-        }
-    }
-    true
 }
 
 // Whether a float is finite, any float: it lies between the least and the greatest of the finite ones. (A NaN lies nowhere.)

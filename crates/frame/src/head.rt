@@ -4,7 +4,7 @@ ghost use Prim.Native.Nat.{_+_, _≤_};
 ghost use lib.ListN.{length};
 ghost use Rattle.answer.specs.Outcome.{ok};
 ghost use Rattle.answer.specs.Rule.{judged, passed};
-ghost use Rattle.extent.specs.Boxes.{boundsAt, goodForm, FiniteBox};
+ghost use Rattle.extent.specs.Boxes.{boundsAt, FiniteBox};
 ghost use Rattle.extent.specs.Forms.{floatsOf};
 ghost use Rattle.frame.specs.declared.head.Head.{Head};
 ghost use Rattle.frame.specs.Head.{countsOk, allZero, boxOk, sizedHead, headOf};
@@ -16,8 +16,7 @@ use answer::table::BOX_FORM;
 use answer::table::COUNTS;
 use answer::table::LENGTH;
 use extent::boxes::Box;
-use extent::boxes::Form;
-use extent::boxes::form_of;
+use extent::boxes::good_patterns;
 use extent::rank::float_of;
 use le::number::u16_at;
 use le::number::u32_at;
@@ -70,16 +69,6 @@ fn all_zero(least_x: u64, least_y: u64, greatest_x: u64, greatest_y: u64) -> boo
     false
 }
 
-// Whether four patterns are finite and not reversed.
-fn formed(least_x: u64, least_y: u64, greatest_x: u64, greatest_y: u64) -> bool
-    ensures { λ r. ⌜ r ≡ goodForm (record { least-x = «least_x»; least-y = «least_y»; greatest-x = «greatest_x»; greatest-y = «greatest_y» }) ⌝ }
-{
-    match form_of(least_x, least_y, greatest_x, greatest_y) {
-        Form::Good(_) => true,
-        Form::Bad => false,
-    }
-}
-
 // Whether the box in a page's body is of the form that v vertices ask for.
 fn box_ok(v: usize, b: &[u8]) -> bool
     requires { ⌜ 38 ≤ length (now b) ⌝ }
@@ -92,7 +81,7 @@ fn box_ok(v: usize, b: &[u8]) -> bool
     if v == 0 {
         return all_zero(least_x, least_y, greatest_x, greatest_y);
     }
-    formed(least_x, least_y, greatest_x, greatest_y)
+    good_patterns(least_x, least_y, greatest_x, greatest_y)
 }
 
 // The rules of a body whose counts are read: its exact length, then the form of its box.

@@ -60,6 +60,13 @@ outlineRules os xs ys =
     on (gridRule os) (λ _.
     turnRule os)))
 
+-- those behind 12, for inner steps; no service speaks of it
+unfoldable pub ringRules : List Outline → Out (Unit {0})
+ringRules os =
+    on (ringRule os) (λ _.
+    on (gridRule os) (λ _.
+    turnRule os))
+
 -- a page's shapes
 unfoldable pub contentsOf : Head → List ℕ → Out (List Shape)
 contentsOf h b =

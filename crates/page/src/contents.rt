@@ -14,15 +14,19 @@ ghost use Rattle.shape.specs.Rules.{boxRule};
 ghost use Rattle.page.specs.Contents.{outlineRules};
 ghost use Rattle.page.specs.Loaded.{Loads};
 use crate::columns::columns;
-use crate::rules::outline_rules;
+use crate::rules::ring_rules;
+use answer::Refusal;
 use answer::Verdict;
+use answer::table::FINITE;
 use extent::boxes::Box;
+use extent::boxes::Form;
+use extent::boxes::box_if_finite;
 use frame::head::Head;
 use le::run::read_u16s;
 use shape::rules::box_rule;
 use types::parts::parts_rule;
 
-// 12 to 16 over a page's shapes. Rule 11 has passed.
+// 12 to 16 over a page's shapes: one walk over the vertices serves 12 and 16. Rule 11 has passed.
 fn page_rules(
     bounds: Box,
     types: &[u8],
@@ -34,10 +38,15 @@ fn page_rules(
     requires { ⌜ FiniteBox (patterns bounds) × (partsHold (now types) (now counts) (now lens) (length (now xs)) ≡ true) × (length (now ys) ≡ length (now xs)) × (length (now xs) ≤ 2048) ⌝ }
     ensures { λ r. ⌜ judged r ≡ on (outlineRules (outlinesOf (now (types .entry)) (now (counts .entry)) (now (lens .entry)) (now (xs .entry)) (now (ys .entry))) (now (xs .entry)) (now (ys .entry))) (λ _. boxRule (patterns bounds) (now (xs .entry)) (now (ys .entry))) ⌝ }
 {
-    if let Verdict::Refused(w) = outline_rules(types, counts, lens, xs, ys) {
-        return Verdict::Refused(w);
+    match box_if_finite(xs, ys) {
+        Form::Bad => Verdict::Refused(Refusal::because(FINITE)),
+        Form::Good(own) => {
+            if let Verdict::Refused(w) = ring_rules(types, counts, lens, xs, ys) {
+                return Verdict::Refused(w);
+            }
+            box_rule(bounds, own, xs.len())
+        }
     }
-    box_rule(bounds, xs, ys)
 }
 
 // The contents of a page with a head that was read from its body. The scratch has room for exactly as many part counts, part lengths and

@@ -8,7 +8,7 @@ ghost use Rattle.extent.specs.Boxes.{boxOf};
 ghost use Rattle.pageblock.specs.Body.{countBytes, boxBytes, tableBytes, columnBytes};
 ghost use Rattle.pageblock.specs.Ready.{Sound, Sized};
 use column::write::Fitted;
-use extent::boxes::box_of;
+use extent::boxes::first_box;
 use extent::rank::bits_of;
 use le::number::put_u16;
 use le::number::put_u32;
@@ -47,7 +47,7 @@ pub(crate) fn put_box(d: &mut [u8], at: usize, xs: &[u64], ys: &[u64])
         put_four(d, at, 0, 0, 0, 0);
         return;
     }
-    let b = box_of(xs, ys);
+    let b = first_box(xs, ys);
     put_four(
         d,
         at,

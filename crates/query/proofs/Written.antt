@@ -18,9 +18,8 @@ use Rattle.le.proofs.Blocks as le
 use Rattle.le.proofs.Blocks.{length-head, head-len, head-kind}
 use Rattle.extent.specs.Boxes.{boundsAt, patternOf, patterns}
 use Rattle.extent.specs.declared.boxes.Box.{Box}
-use Rattle.extent.proofs.Finite.{four-finite}
 use Rattle.extent.specs.Forms.{FitsBox}
-use Rattle.extent.proofs.Forms.{floats-back, form-made, good-finite, good-order}
+use Rattle.extent.proofs.Forms.{floats-back, form-made}
 use Rattle.query.specs.declared.ask.Query.{Query}
 use Rattle.query.specs.declared.ask.Query.the-variants.{Everything, Spot, Window}
 use Rattle.query.specs.Ask.{sound}
@@ -73,7 +72,7 @@ window-says b f s =
     let g = sym (sound-window (Window b) b refl) ∙ s in
     asked-window (blockWith (four b)) (length-whole (four b))
     ∙ ap windowAsked read
-    ∙ sym (window-made (patterns b) b (sym (form-made (patterns b) b (four-finite (patterns b) (good-finite (patterns b) g)) (good-order (patterns b) g) (sym (floats-back b f)))))
+    ∙ sym (window-made (patterns b) b (sym (form-made (patterns b) b g (sym (floats-back b f)))))
   where
     read : boundsAt (blockWith (four b)) 6 ≡ patterns b
     read = unfold boundsAt in λ i. record {

@@ -7,5 +7,6 @@ pub mod Walking
 pub mod Whiches
 pub mod Outlines
 pub mod Passing
+pub mod Bounding
 pub mod Grouping
 pub mod Worked

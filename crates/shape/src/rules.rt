@@ -1,19 +1,21 @@
 // Rules 12 to 16 of a page's contents, over its lists: types, part counts, part lengths, and the patterns of its vertices.
 ghost use mathlib.Core.Path.{_≡_};
-ghost use mathlib.Core.Bool.{true, _&&_};
+ghost use mathlib.Core.Bool.{true, not, _||_};
 ghost use Prim.Native.Nat.{_≤_};
+ghost use lib.Dec.{ltb};
 ghost use lib.ListN.{length};
-ghost use Rattle.answer.specs.Rule.{judged};
+ghost use Rattle.answer.specs.Table as table;
+ghost use Rattle.answer.specs.Rule.{rule, judged};
 ghost use Rattle.answer.specs.Every.{allOf};
 ghost use Rattle.types.specs.Parts.{partsHold};
-ghost use Rattle.extent.specs.Rank.{allFinite};
-ghost use Rattle.extent.specs.Boxes.{patterns, FiniteBox};
+ghost use Rattle.extent.specs.Boxes.{patterns, FiniteBox, sameBox};
 ghost use Rattle.shape.specs.Outline.{outlinesOf};
-ghost use Rattle.shape.specs.Rules.{finiteRule, ringRule, onGridShape, gridRule, turnRule, boxHolds, boxRule};
+ghost use Rattle.shape.specs.Rules.{finiteRule, ringRule, onGridShape, gridRule, turnRule};
 ghost use Rattle.shape.specs.Which.{testOf, readyFor, spares};
 use crate::which::Which;
 use crate::which::shape_holds;
 use crate::which::spares;
+use answer::Refusal;
 use answer::Verdict;
 use answer::table::BOX;
 use answer::table::FINITE;
@@ -21,26 +23,20 @@ use answer::table::GRID;
 use answer::table::RING;
 use answer::table::TURN;
 use extent::boxes::Box;
-use extent::boxes::box_of;
+use extent::boxes::Form;
+use extent::boxes::box_if_finite;
 use extent::boxes::same_value;
-use extent::rank::all_finite;
 use types::parts::total;
-
-// Whether all coordinates are finite.
-fn both_finite(xs: &[u64], ys: &[u64]) -> bool
-    ensures { λ r. ⌜ r ≡ (allFinite (now (xs .entry)) && allFinite (now (ys .entry))) ⌝ }
-{
-    if all_finite(xs) {
-        return all_finite(ys);
-    }
-    false
-}
 
 // 12: all coordinates are finite.
 pub fn finite_rule(xs: &[u64], ys: &[u64]) -> Verdict
+    requires { ⌜ length (now ys) ≡ length (now xs) ⌝ }
     ensures { λ r. ⌜ judged r ≡ finiteRule (now (xs .entry)) (now (ys .entry)) ⌝ }
 {
-    Verdict::of(both_finite(xs, ys), FINITE)
+    match box_if_finite(xs, ys) {
+        Form::Good(_) => Verdict::Holds,
+        Form::Bad => Verdict::Refused(Refusal::because(FINITE)),
+    }
 }
 
 // Whether each shape passes one of the rules that go shape by shape: a shape's parts, and its vertices, are the first of those left.
@@ -113,21 +109,21 @@ pub fn turn_rule(types: &[u8], counts: &[u16], lens: &[u16], xs: &[u64], ys: &[u
     Verdict::of(shapes_hold(Which::Turn, types, counts, lens, xs, ys), TURN)
 }
 
-// Whether a box is in value that of the vertices, if there are any.
-fn box_holds(b: Box, xs: &[u64], ys: &[u64]) -> bool
-    requires { ⌜ FiniteBox (patterns b) × (length (now ys) ≡ length (now xs)) × (allFinite (now xs) ≡ true) × (allFinite (now ys) ≡ true) ⌝ }
-    ensures { λ r. ⌜ r ≡ boxHolds (patterns b) (now (xs .entry)) (now (ys .entry)) ⌝ }
+// Whether a box is in value that of v vertices, if there are any.
+fn box_holds(b: Box, own: Box, v: usize) -> bool
+    requires { ⌜ FiniteBox (patterns b) × FiniteBox (patterns own) ⌝ }
+    ensures { λ r. ⌜ r ≡ (not (ltb 0 v) || sameBox (patterns b) (patterns own)) ⌝ }
 {
-    if xs.len() == 0 {
+    if v == 0 {
         return true;
     }
-    same_value(b, box_of(xs, ys))
+    same_value(b, own)
 }
 
-// 16: the page's box is in value that of its vertices. Rules 7 and 12 have passed.
-pub fn box_rule(b: Box, xs: &[u64], ys: &[u64]) -> Verdict
-    requires { ⌜ FiniteBox (patterns b) × (length (now ys) ≡ length (now xs)) × (allFinite (now xs) ≡ true) × (allFinite (now ys) ≡ true) ⌝ }
-    ensures { λ r. ⌜ judged r ≡ boxRule (patterns b) (now (xs .entry)) (now (ys .entry)) ⌝ }
+// 16: the page's box is in value its v vertices' own. Rules 7 and 12 have passed.
+pub fn box_rule(b: Box, own: Box, v: usize) -> Verdict
+    requires { ⌜ FiniteBox (patterns b) × FiniteBox (patterns own) ⌝ }
+    ensures { λ r. ⌜ judged r ≡ rule (not (ltb 0 v) || sameBox (patterns b) (patterns own)) table.boxValue ⌝ }
 {
-    Verdict::of(box_holds(b, xs, ys), BOX)
+    Verdict::of(box_holds(b, own, v), BOX)
 }

@@ -34,13 +34,13 @@ returns c =
     })
     ∙ sym (box-none _ _ (c .before .if1 .taken))
 
-formed-requires : tie.Need-formed-requires
-formed-requires c κs = search needs
+good-patterns-requires : tie.Need-good-patterns-requires
+good-patterns-requires c κs = search needs
 
 returns-2 : tie.Need-returns-2
 unfolding boundsAt
 returns-2 c =
-    c .formed .ensures
+    c .good-patterns .ensures
     ∙ ap goodForm (λ i. record {
       least-x = c .before .before .before .before .before .u64-at .ensures i;
       least-y = c .before .before .before .before .u64-at2 .ensures i;
@@ -59,5 +59,5 @@ box-ok-spec =
     u64-at-requires-4
     all-zero-requires
     returns
-    formed-requires
+    good-patterns-requires
     returns-2)

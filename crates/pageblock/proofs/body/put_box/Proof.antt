@@ -1,4 +1,4 @@
--- `pageblock::body::put_box` puts the box of the vertices: of no vertex four zeros, else what `box_of` gives, which is finite. Assumes nothing.
+-- `pageblock::body::put_box` puts the box of the vertices: of no vertex four zeros, else what `first_box` gives, which is finite. Assumes nothing.
 use mathlib.Core.Path.{ap, _∙_}
 use lib.Seq.{sets}
 use Rattle.extent.specs.Boxes.{Bounds, boxOf}
@@ -19,28 +19,28 @@ returns c =
     let a = c .before .before .before .before .before .before .before .before .args in
     c .before .before .put-four .ensures ∙ ap (λ (b : Bounds). sets (a .d .now) (a .at) (boxBytes b)) (box-zero (a .xs .now) (a .ys .now) (c .before .before .before .before .if1 .taken))
 
-box-of-requires : tie.Need-box-of-requires
-box-of-requires c κs = search needs
+first-box-requires : tie.Need-first-box-requires
+first-box-requires c κs = search needs
 
 bits-of-requires : tie.Need-bits-of-requires
 bits-of-requires c κs =
     let p = c .before .before .before .before .before .before in
-    stored-finite _ _ _ (c .before .box-of .ensures) (c .before .before .if1 .left) (p .pre .1) .least-x
+    stored-finite _ _ _ (c .before .first-box .ensures) (c .before .before .if1 .left) (p .pre .1) .least-x
 
 bits-of-requires-2 : tie.Need-bits-of-requires-2
 bits-of-requires-2 c κs =
     let p = c .before .before .before .before .before .before .before in
-    stored-finite _ _ _ (c .before .before .box-of .ensures) (c .before .before .before .if1 .left) (p .pre .1) .least-y
+    stored-finite _ _ _ (c .before .before .first-box .ensures) (c .before .before .before .if1 .left) (p .pre .1) .least-y
 
 bits-of-requires-3 : tie.Need-bits-of-requires-3
 bits-of-requires-3 c κs =
     let p = c .before .before .before .before .before .before .before .before in
-    stored-finite _ _ _ (c .before .before .before .box-of .ensures) (c .before .before .before .before .if1 .left) (p .pre .1) .greatest-x
+    stored-finite _ _ _ (c .before .before .before .first-box .ensures) (c .before .before .before .before .if1 .left) (p .pre .1) .greatest-x
 
 bits-of-requires-4 : tie.Need-bits-of-requires-4
 bits-of-requires-4 c κs =
     let p = c .before .before .before .before .before .before .before .before .before in
-    stored-finite _ _ _ (c .before .before .before .before .box-of .ensures) (c .before .before .before .before .before .if1 .left) (p .pre .1) .greatest-y
+    stored-finite _ _ _ (c .before .before .before .before .first-box .ensures) (c .before .before .before .before .before .if1 .left) (p .pre .1) .greatest-y
 
 put-four-requires-2 : tie.Need-put-four-requires-2
 put-four-requires-2 c κs = search needs
@@ -50,12 +50,12 @@ same-length-2 c = search needs
 
 returns-2 : tie.Need-returns-2
 returns-2 c =
-    let box-of = c .before .before .before .before .before .before .before .before .box-of in
+    let first-box = c .before .before .before .before .before .before .before .before .first-box in
     let bits-of = c .before .before .before .before .before .before .bits-of in
     let bits-of2 = c .before .before .before .before .before .bits-of2 in
     let bits-of3 = c .before .before .before .before .bits-of3 in
     let a = c .before .before .before .before .before .before .before .before .before .before .before .before .before .args in
-    c .before .before .put-four2 .ensures ∙ ap (λ (b : Bounds). sets (a .d .now) (a .at) (boxBytes b)) (four-are (box-of .result) (boxOf (a .xs .now) (a .ys .now)) _ _ _ _ (box-of .ensures) (bits-of .ensures) (bits-of2 .ensures) (bits-of3 .ensures) (c .before .before .before .bits-of4 .ensures))
+    c .before .before .put-four2 .ensures ∙ ap (λ (b : Bounds). sets (a .d .now) (a .at) (boxBytes b)) (four-are (first-box .result) (boxOf (a .xs .now) (a .ys .now)) _ _ _ _ (first-box .ensures) (bits-of .ensures) (bits-of2 .ensures) (bits-of3 .ensures) (c .before .before .before .bits-of4 .ensures))
 
 pub put-box-spec : {M : Type 1} → statement M
 put-box-spec =
@@ -64,7 +64,7 @@ put-box-spec =
     put-four-requires
     same-length
     returns
-    box-of-requires
+    first-box-requires
     bits-of-requires
     bits-of-requires-2
     bits-of-requires-3

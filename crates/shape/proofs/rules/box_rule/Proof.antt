@@ -3,7 +3,6 @@ use mathlib.Core.Path.{ap, _∙_}
 use mathlib.Core.Bool.{Bool}
 use Rattle.answer.specs.Table as table
 use Rattle.answer.specs.Rule.{rule}
-use Rattle.shape.specs.Rules.{boxRule}
 use borrow.Author.Needs.{needs}
 use Rattle.shape.proofs.rules.box_rule.Statement.{statement}
 use Rattle.shape.proofs.rules.box_rule.Tie as tie
@@ -15,7 +14,6 @@ of-requires : tie.Need-of-requires
 of-requires c κs = search needs
 
 returns : tie.Need-returns
-unfolding boxRule
 returns c = c .of .ensures ∙ ap (λ (t : Bool). rule t table.boxValue) (c .before .box-holds .ensures)
 
 pub box-rule-spec : {M : Type 1} → statement M
