@@ -1,7 +1,10 @@
 // The listing program: a query block and then a file on standard input; a line "place register type" for each hit and then "hits H of M", or one line
 // that says why it is refused. The block's form (1) is judged first, then the file's size (3), then the order is that of the search.
+ghost use mathlib.Core.Path.{_≡_};
+ghost use mathlib.Core.Bool.{true};
 ghost use Prim.Native.Nat.{_+_, _≤_};
 ghost use lib.ListN.{length};
+ghost use Rattle.query.specs.Ask.{sound};
 use answer::Filled;
 use answer::Refusal;
 use answer::table::MANY;
@@ -15,7 +18,7 @@ use query::block::AskRead;
 use query::block::BlockLen;
 use query::block::ask_of;
 use query::block::block_len;
-use search::search::search;
+use search::search::search_sound;
 use text::lines::put_hits;
 use text::lines::put_refused;
 use text::put_row;
@@ -107,9 +110,11 @@ fn list_places(places: &[u32], file: &[u8]) {
 }
 
 // What is asked of a file, with room for 4,096 hits.
-fn list(a: Ask, file: &[u8]) {
+fn list(a: Ask, file: &[u8])
+    requires { ⌜ sound (a .query) ≡ true ⌝ }
+{
     let mut places = [0u32; 4096];
-    match search(a, file, &mut places) {
+    match search_sound(a, file, &mut places) {
         Filled::Start(n) => {
             list_places(&places[..n], file);
         }

@@ -25,7 +25,9 @@ use Rattle.extent.proofs.Floats.{float-finite, floats-good}
 use Rattle.query.specs.declared.ask.Ask.{Ask}
 use Rattle.query.specs.declared.ask.Query.the-variants.{Everything}
 use Rattle.query.specs.Ask.{sound}
-use Rattle.query.specs.Block.{instead, bodyLen, lenOf, blockLen, spotAsked, windowAsked, asked, askOf}
+use Rattle.query.specs.declared.block.AskRead.{AskRead}
+use Rattle.query.specs.declared.block.AskRead.the-variants.{Asked}
+use Rattle.query.specs.Block.{instead, bodyLen, lenOf, blockLen, spotAsked, windowAsked, asked, askOf, saidAsk}
 use Rattle.query.specs.Accepted.{Fronts, Accepts}
 use Rattle.query.proofs.Blocks.{len-is, block-found, ask-exactly, body-most}
 
@@ -65,6 +67,11 @@ unfolding askOf
 ask-sound s a e =
     let w = on-ok (blockLen s) (λ n. need (eqb n (length s)) (because query) (asked s)) a e in
     asked-sound s a (need-ok (eqb (w .0) (length s)) (because query) (asked s) a (w .2) .1)
+
+-- as the code reads it
+pub read-sound : (s : List ℕ) (r : AskRead) (a : Ask) → saidAsk r ≡ askOf s → r ≡ Asked a → sound (a .query) ≡ true
+unfolding saidAsk
+read-sound s r a e h = ask-sound s a (sym e ∙ ap saidAsk h)
 
 -- ---- the block that is found
 

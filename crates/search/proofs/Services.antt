@@ -16,7 +16,7 @@ use Rattle.answer.specs.Refusal.{because}
 use Rattle.answer.specs.Outcome.{Out, refused, ok, need, on, Fills}
 use Rattle.answer.specs.Rule.{rule, judged}
 use Rattle.answer.proofs.Outcomes.{never, ok-inj, refused-inj, met, unmet, fills-refused, fills-ok}
-use Rattle.answer.proofs.Rules.{judged-holds, rule-ok}
+use Rattle.answer.proofs.Rules.{judged-holds, rule-holds, rule-ok}
 use Rattle.le.specs.Number.{number}
 use Rattle.query.specs.declared.ask.Ask.{Ask}
 use Rattle.query.specs.Ask.{sound}
@@ -33,26 +33,31 @@ use Rattle.search.proofs.Ordered.{hits-back}
 
 -- ---- the hits of a file
 
+-- what the judged query says
+pub query-sound : (a : Ask) → judged verdict.Holds ≡ rule (sound (a .query)) table.query → sound (a .query) ≡ true
+query-sound a q = rule-ok (sound (a .query)) table.query tt (sym q ∙ judged-holds)
+
 module _ (a : Ask) (s : List ℕ) where
-  pub frame-refused : {n to : ℕ} {d e : List ℕ} (w : Refusal) → frameOf s ≡ refused w → Meets (metIn a s) n to (Refused w) d e
-  frame-refused w q = meets-refused w (met-order a s ∙ on-refused (frameOf s) _ w q)
+  pub query-refused : (w : Refusal) → judged (verdict.Refused w) ≡ rule (sound (a .query)) table.query → hitsOf a s ≡ refused w
+  query-refused w q = hits-order a s ∙ then-refused (rule (sound (a .query)) table.query) _ w q
 
-  pub query-refused : {n to : ℕ} {d e : List ℕ} (w : Refusal) → judged (verdict.Refused w) ≡ rule (sound (a .query)) table.query
-      → Meets (hitsOf a s) n to (Refused w) d e
-  query-refused w q = meets-refused w (hits-order a s ∙ then-refused (rule (sound (a .query)) table.query) _ w q)
+  -- of a sound query
+  module _ (q : sound (a .query) ≡ true) where
+    pub sound-met : hitsOf a s ≡ metIn a s
+    sound-met = hits-order a s ∙ then-holds (rule (sound (a .query)) table.query) _ (judged-holds ∙ sym (rule-holds (sound (a .query)) table.query q))
 
-  module _ (q : judged verdict.Holds ≡ rule (sound (a .query)) table.query) where
-    pub query-sound : sound (a .query) ≡ true
-    query-sound = rule-ok (sound (a .query)) table.query tt (sym q ∙ judged-holds)
-
-    pub query-met : hitsOf a s ≡ metIn a s
-    query-met = hits-order a s ∙ then-holds (rule (sound (a .query)) table.query) _ q
+    pub frame-refused : {n to : ℕ} {d e : List ℕ} (w : Refusal) → frameOf s ≡ refused w → Meets (hitsOf a s) n to (Refused w) d e
+    frame-refused w e = meets-refused w (sound-met ∙ met-order a s ∙ on-refused (frameOf s) _ w e)
 
 -- ---- the count
 
 pub count-said : (a : Ask) (s : List ℕ) (r : Counted) → saidCount r ≡ on (hitsOf a s) (λ l. ok (length l)) → saidCount r ≡ countOf a s
 unfolding countOf
 count-said a s r e = e
+
+pub count-refused : (a : Ask) (s : List ℕ) (w : Refusal) → hitsOf a s ≡ refused w → saidCount (Refused w) ≡ countOf a s
+unfolding countOf saidCount
+count-refused a s w e = sym (on-refused (hitsOf a s) _ w e)
 
 -- an answer is determined by what it says
 pub said-count-one : (x y : Counted) → saidCount x ≡ saidCount y → x ≡ y

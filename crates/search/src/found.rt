@@ -9,14 +9,12 @@ ghost use Rattle.search.specs.Search.{metIn, hitsOf};
 ghost use Rattle.search.specs.Met.{Meets};
 use crate::count::Counted;
 use crate::pages::walk_hits;
-use answer::Verdict;
 use frame::cursor::Cursor;
 use frame::walk::FirstRead;
 use frame::walk::Framed;
 use frame::walk::first;
 use frame::walk::frame;
 use query::ask::Ask;
-use query::ask::judge;
 
 // The walk with its own scratch, which serves every page.
 fn own_hits(a: Ask, s: &[u8], from: Cursor, flags: &mut [u8]) -> Counted
@@ -30,10 +28,10 @@ fn own_hits(a: Ask, s: &[u8], from: Cursor, flags: &mut [u8]) -> Counted
     walk_hits(a, s, from, &mut counts, &mut lens, &mut xs, &mut ys, flags)
 }
 
-// The frame, and then the pages that the query meets.
-fn met_in(a: Ask, s: &[u8], flags: &mut [u8]) -> Counted
+// The frame, and then the pages that the query meets, any bytes.
+pub fn hits_of(a: Ask, s: &[u8], flags: &mut [u8]) -> Counted
     requires { ⌜ sound (a .query) ≡ true ⌝ }
-    ensures { λ r. ⌜ Meets (metIn a (now (s .entry))) 0 262144 r (now (flags .entry)) (now (flags .exit)) ⌝ }
+    ensures { λ r. ⌜ Meets (hitsOf a (now (s .entry))) 0 262144 r (now (flags .entry)) (now (flags .exit)) ⌝ }
 {
     if let Framed::Refused(w) = frame(s) {
         return Counted::Refused(w);
@@ -42,14 +40,4 @@ fn met_in(a: Ask, s: &[u8], flags: &mut [u8]) -> Counted
         FirstRead::Refused(w) => Counted::Refused(w),
         FirstRead::After(c) => own_hits(a, s, c, flags),
     }
-}
-
-// The query, and then the file, any bytes.
-pub fn hits_of(a: Ask, s: &[u8], flags: &mut [u8]) -> Counted
-    ensures { λ r. ⌜ Meets (hitsOf a (now (s .entry))) 0 262144 r (now (flags .entry)) (now (flags .exit)) ⌝ }
-{
-    if let Verdict::Refused(w) = judge(a) {
-        return Counted::Refused(w);
-    }
-    met_in(a, s, flags)
 }

@@ -6,7 +6,7 @@ use crate::word::filled_word;
 use crate::word::refusal_word;
 use query::block::AskRead;
 use query::block::ask_of;
-use search::search::search;
+use search::search::search_sound;
 
 // The places of the hits at the start of a room, ascending, and their number; or the refusal, which leaves the room. The query is exactly its block.
 #[no_mangle]
@@ -15,6 +15,6 @@ pub extern "C" fn boundary_search(query: &[u8], file: &[u8], places: &mut [u32])
 {
     match ask_of(query) {
         AskRead::Refused(w) => refusal_word(w),
-        AskRead::Asked(a) => filled_word(search(a, file, places)),
+        AskRead::Asked(a) => filled_word(search_sound(a, file, places)),
     }
 }

@@ -2,6 +2,7 @@
 use mathlib.Core.Path.{sym}
 use lib.Seq.{length-take-le}
 use native.Mathlib.Omega.{arith}
+use Rattle.query.proofs.Sounds.{read-sound}
 use borrow.Author.Needs.{needs}
 use Rattle.list.proofs.answer_to.Statement.{statement}
 use Rattle.list.proofs.answer_to.Tie as tie
@@ -39,7 +40,7 @@ part-list-end : tie.Need-part-list-end
 part-list-end c = search needs
 
 list-requires : tie.Need-list-requires
-list-requires c κs = search needs
+list-requires c κs = let a = c .before .before .a .given in read-sound _ _ (a .0 .0) (c .before .before .before .before .ask-of .ensures) (a .1)
 
 enum-known-w : tie.Need-enum-known-w
 enum-known-w c = search needs
