@@ -1,7 +1,9 @@
 //! Broken variants of the mirror, one thing at a time, to see that the
 //! comparison finds it. The variant is set by `set`, or for the program by
-//! the environment variable COMPARE_BREAK.
+//! the environment variable COMPARE_BREAK. Those that only another
+//! floating-point mode shows are in broken_modes.rs.
 
+use crate::broken_modes;
 use crate::broken_rules as rules;
 use crate::gen::encode::{marker, zigzag};
 use second::writer::PageInput;
@@ -43,9 +45,14 @@ pub const VARIANTS: [&str; 30] = [
 
 static ACTIVE: AtomicUsize = AtomicUsize::new(0);
 
+/// All variants, those of the modes last.
+fn all() -> impl Iterator<Item = &'static str> {
+    VARIANTS.iter().chain(&broken_modes::VARIANTS).copied()
+}
+
 /// Sets the variant of a name; false if there is none.
 pub fn set(name: &str) -> bool {
-    match VARIANTS.iter().position(|variant| *variant == name) {
+    match all().position(|variant| variant == name) {
         Some(number) => {
             ACTIVE.store(number, Ordering::SeqCst);
             true
@@ -57,14 +64,14 @@ pub fn set(name: &str) -> bool {
 /// Sets the variant that the environment names, if it names one.
 pub fn set_from_environment() {
     if let Ok(name) = std::env::var("COMPARE_BREAK") {
-        assert!(set(&name), "no variant {name}; there are {VARIANTS:?}");
+        assert!(set(&name), "no variant {name}; there are {:?}", all().collect::<Vec<&str>>());
         println!("mirror broken: {name}");
     }
 }
 
 /// The variant is this one.
-fn on(name: &str) -> bool {
-    VARIANTS[ACTIVE.load(Ordering::SeqCst)] == name
+pub fn on(name: &str) -> bool {
+    all().nth(ACTIVE.load(Ordering::SeqCst)) == Some(name)
 }
 
 /// The number in a word.

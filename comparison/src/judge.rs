@@ -3,6 +3,7 @@
 
 use crate::call::{Arg, Call, Outcome};
 use crate::expected::expected;
+use crate::modes::Setting;
 use crate::real::{run, Seen};
 use crate::text::elements;
 use crate::watch;
@@ -17,13 +18,21 @@ pub fn word_text(word: u64) -> String {
     }
 }
 
-/// The implementation did just what second/ says.
+/// What differs: line by line, and whether it is the answer (the word or the
+/// memory) and not only the floating-point mode or flags.
+#[derive(Clone, Debug)]
+pub struct Difference {
+    pub lines: Vec<String>,
+    pub answer: bool,
+}
+
+/// The implementation answered just what second/ says.
 fn same(must: &Outcome, seen: &Seen) -> bool {
     must.word == seen.word && must.args == seen.args && seen.broken.is_empty()
 }
 
 /// What differs, line by line.
-pub fn differences(call: &Call, must: &Outcome, seen: &Seen) -> Vec<String> {
+fn differences(call: &Call, must: &Outcome, seen: &Seen) -> Vec<String> {
     let mut lines = Vec::new();
     if must.word != seen.word {
         lines.push(format!("word: must be {}, is {}", word_text(must.word), word_text(seen.word)));
@@ -44,18 +53,20 @@ pub fn differences(call: &Call, must: &Outcome, seen: &Seen) -> Vec<String> {
     for (k, distance) in seen.broken.iter().take(8) {
         lines.push(format!("guard byte {distance:+} of {} changed", params[*k].name));
     }
+    lines.extend_from_slice(&seen.left);
     lines
 }
 
-/// Runs a call both ways: what second/ says, or what differs.
-pub fn judge(call: &Call) -> Result<Outcome, Vec<String>> {
+/// Runs a call both ways: what second/ says, or what differs. Only the
+/// implementation's call is made in the floating-point mode, if there is one.
+pub fn judge(call: &Call, setting: Option<&Setting>) -> Result<Outcome, Difference> {
     let must = expected(call);
-    watch::about_to_call(call);
-    let seen = run(call);
+    watch::about_to_call(call, setting);
+    let seen = run(call, setting);
     watch::called();
-    if same(&must, &seen) {
-        Ok(must)
-    } else {
-        Err(differences(call, &must, &seen))
+    let answer = !same(&must, &seen);
+    if !answer && seen.left.is_empty() {
+        return Ok(must);
     }
+    Err(Difference { lines: differences(call, &must, &seen), answer })
 }

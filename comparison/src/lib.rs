@@ -5,6 +5,8 @@ pub mod again;
 #[cfg(feature = "mirror")]
 pub mod broken;
 #[cfg(feature = "mirror")]
+pub mod broken_modes;
+#[cfg(feature = "mirror")]
 pub mod broken_rules;
 pub mod call;
 pub mod calls;
@@ -16,6 +18,7 @@ pub mod guarded;
 pub mod judge;
 #[cfg(feature = "mirror")]
 pub mod mirror;
+pub mod modes;
 pub mod options;
 pub mod possible;
 pub mod real;

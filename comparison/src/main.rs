@@ -3,6 +3,7 @@
 //! reached, with 1 otherwise, with 2 for a wrong command line, and with 3 if
 //! the implementation ended the program or did not come back.
 
+use comparing::modes::{self, Modes};
 use comparing::options::{parse, Options, Task, USAGE};
 use comparing::session::Session;
 use comparing::{again, corpus, turns, watch};
@@ -17,12 +18,17 @@ fn clock_seed() -> u64 {
     }
 }
 
-/// The comparison; true if it is good.
-fn run(options: &Options, seed: u64) -> bool {
+/// The comparison, in floating-point modes if there are any; true if it is
+/// good.
+fn run(options: &Options, seed: u64, modes: Option<Modes>) -> bool {
     let [columns, files, runs] = options.counts;
     println!("seed {seed}: {columns} columns, {files} files, {runs} writer runs");
     let started = Instant::now();
     let mut session = Session::new(seed, Some(options.save.clone()));
+    if let Some(modes) = modes {
+        println!("{}", modes.text());
+        session.settings = modes.settings;
+    }
     turns::run(&mut session, seed, options.counts);
     println!("cases by kind:\n{}", session.tally.kinds_text());
     println!("calls by service and refusal number (0: not refused; .: cannot be given):");
@@ -43,9 +49,10 @@ fn run(options: &Options, seed: u64) -> bool {
 /// Does what the options say; true if it went well.
 fn act(options: &Options) -> Result<bool, String> {
     let seed = options.seed.unwrap_or_else(clock_seed);
+    let modes = if options.modes { Some(modes::find()?) } else { None };
     match &options.task {
-        Task::Run => Ok(run(options, seed)),
-        Task::Again(path) => again::again(path),
+        Task::Run => Ok(run(options, seed, modes)),
+        Task::Again(path) => again::again(path, modes.as_ref()),
         Task::Corpus(input, output) => corpus::write(seed, input, output),
     }
 }

@@ -3,9 +3,14 @@
 //! against one that breaks one thing at a time (broken.rs).
 //!
 //! Every pointer comes from the comparison's guarded memory.
+//!
+//! second/ compares floats here and there. So that the mirror is good in every
+//! floating-point mode, it runs apart, in the default one.
 
 use crate::broken;
+use crate::broken_modes;
 use crate::face;
+use crate::modes::apart;
 use second::writer::PageInput;
 use std::slice::{from_raw_parts as lent, from_raw_parts_mut as room};
 
@@ -13,7 +18,9 @@ use std::slice::{from_raw_parts as lent, from_raw_parts_mut as room};
 /// As boundary.h says: each pointer is good for its number of elements.
 #[no_mangle]
 pub unsafe extern "C" fn boundary_check(file: *const u8, len: usize) -> u64 {
-    broken::check(file as *mut u8, len).unwrap_or_else(|| face::check(lent(file, len)))
+    let word = apart(|| broken::check(file as *mut u8, len).unwrap_or_else(|| face::check(lent(file, len))));
+    broken_modes::check();
+    word
 }
 
 /// # Safety
@@ -21,7 +28,8 @@ pub unsafe extern "C" fn boundary_check(file: *const u8, len: usize) -> u64 {
 #[no_mangle]
 pub unsafe extern "C" fn boundary_count(query: *const u8, query_len: usize, file: *const u8, len: usize) -> u64 {
     let (query, file) = (lent(query, query_len), lent(file, len));
-    broken::count(query, file).unwrap_or_else(|| face::count(query, file))
+    let in_mode = broken_modes::count(query, file);
+    in_mode.unwrap_or_else(|| apart(|| broken::count(query, file).unwrap_or_else(|| face::count(query, file))))
 }
 
 /// # Safety
@@ -36,8 +44,10 @@ pub unsafe extern "C" fn boundary_search(
     room_len: usize,
 ) -> u64 {
     let (query, file, places) = (lent(query, query_len), lent(file, len), room(places, room_len));
-    let word = face::search(query, file, places);
-    broken::search(word, places)
+    apart(|| {
+        let word = face::search(query, file, places);
+        broken::search(word, places)
+    })
 }
 
 /// # Safety
@@ -56,17 +66,14 @@ pub unsafe extern "C" fn boundary_fetch(
     ys: *mut u64,
     ys_room: usize,
 ) -> u64 {
+    broken_modes::fetch();
     let place = broken::place(place);
-    let about = room(about, about_room);
-    let word = face::fetch(
-        lent(file, len),
-        place,
-        about,
-        room(lens, lens_room),
-        room(xs, xs_room),
-        room(ys, ys_room),
-    );
-    broken::fetch(word, about)
+    let (file, about, lens) = (lent(file, len), room(about, about_room), room(lens, lens_room));
+    let (xs, ys) = (room(xs, xs_room), room(ys, ys_room));
+    apart(|| {
+        let word = face::fetch(file, place, about, lens, xs, ys);
+        broken::fetch(word, about)
+    })
 }
 
 /// # Safety
@@ -74,12 +81,14 @@ pub unsafe extern "C" fn boundary_fetch(
 #[no_mangle]
 pub unsafe extern "C" fn boundary_column_write(values: *const u64, n: usize, to: *mut u8, room_len: usize) -> u64 {
     let values = lent(values, n);
-    if let Some(word) = broken::column_write(values, room(to, room_len)) {
-        return word;
-    }
-    let word = face::column_write(values, room(to, room_len));
-    broken::after_column_write(word, to, room_len);
-    word
+    apart(|| {
+        if let Some(word) = broken::column_write(values, room(to, room_len)) {
+            return word;
+        }
+        let word = face::column_write(values, room(to, room_len));
+        broken::after_column_write(word, to, room_len);
+        word
+    })
 }
 
 /// # Safety
@@ -93,8 +102,10 @@ pub unsafe extern "C" fn boundary_column_read(
     room_len: usize,
 ) -> u64 {
     let (column, values) = (lent(column, len), room(to, room_len));
-    let word = face::column_read(column, n, values);
-    broken::column_read(word, column, n, values)
+    apart(|| {
+        let word = face::column_read(column, n, values);
+        broken::column_read(word, column, n, values)
+    })
 }
 
 /// # Safety
@@ -107,18 +118,24 @@ pub unsafe extern "C" fn boundary_column_step(
     position: *mut u64,
     position_len: usize,
 ) -> u64 {
-    let position = room(position, position_len);
-    let word = face::column_step(lent(column, len), n, position);
-    broken::column_step(word, position)
+    let (column, position) = (lent(column, len), room(position, position_len));
+    apart(|| {
+        let word = face::column_step(column, n, position);
+        broken::column_step(word, position)
+    })
 }
 
 /// # Safety
 /// As above.
 #[no_mangle]
 pub unsafe extern "C" fn boundary_open(state: *mut u64, state_len: usize, buffer: *mut u8, len: usize) -> u64 {
-    let state = room(state, state_len);
-    let word = face::open(state, room(buffer, len));
-    broken::open(word, state)
+    let (state, buffer) = (room(state, state_len), room(buffer, len));
+    let word = apart(|| {
+        let word = face::open(state, buffer);
+        broken::open(word, state)
+    });
+    broken_modes::open();
+    word
 }
 
 /// # Safety
@@ -151,17 +168,21 @@ pub unsafe extern "C" fn boundary_page(
         ys: lent(ys, ys_len),
     };
     let (state, buffer) = (room(state, state_len), room(buffer, len));
-    broken::before_page(state);
-    let before = state.first().copied().unwrap_or(0) as usize;
-    let word = face::page(state, buffer, &input);
-    broken::page(word, state, buffer, before, &input)
+    apart(|| {
+        broken::before_page(state);
+        let before = state.first().copied().unwrap_or(0) as usize;
+        let word = face::page(state, buffer, &input);
+        broken::page(word, state, buffer, before, &input)
+    })
 }
 
 /// # Safety
 /// As above.
 #[no_mangle]
 pub unsafe extern "C" fn boundary_close(state: *mut u64, state_len: usize, buffer: *mut u8, len: usize) -> u64 {
-    let state = room(state, state_len);
-    let word = face::close(state, room(buffer, len));
-    broken::close(word, state)
+    let (state, buffer) = (room(state, state_len), room(buffer, len));
+    apart(|| {
+        let word = face::close(state, buffer);
+        broken::close(word, state)
+    })
 }

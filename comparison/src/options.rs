@@ -1,5 +1,6 @@
 //! The command line.
 
+use crate::modes;
 use std::path::PathBuf;
 
 /// What the program is to do.
@@ -18,16 +19,20 @@ pub struct Options {
     /// Columns, files, writer runs.
     pub counts: [u64; 3],
     pub save: PathBuf,
+    /// The calls are made in floating-point modes other than the default.
+    pub modes: bool,
 }
 
 /// The default counts, and the ratio of --cases.
 pub const COUNTS: [u64; 3] = [20_000, 5_000, 2_000];
 
 /// How to use the program.
-pub const USAGE: &str = "usage: compare [--seed S] [--columns N] [--files N] [--runs N] [--cases N] [--save DIR]
-       compare --again FILE
+pub const USAGE: &str = "\
+usage: compare [--seed S] [--columns N] [--files N] [--runs N] [--cases N] [--save DIR] [--modes]
+       compare --again FILE [--modes]
        compare --corpus OUT_STDIN OUT_STDOUT [--seed S]
---cases N: N cases in all, columns : files : runs as 20,000 : 5,000 : 2,000";
+--cases N: N cases in all, columns : files : runs as 20,000 : 5,000 : 2,000
+--modes: each call in a floating-point mode other than the default, in turn; with --again, in each of them";
 
 /// So many cases in all, in the default ratio; at least one of each sort.
 fn scaled(cases: u64) -> [u64; 3] {
@@ -57,6 +62,7 @@ pub fn parse(words: &mut dyn Iterator<Item = String>) -> Result<Options, String>
         seed: None,
         counts: COUNTS,
         save: PathBuf::from("target/differences"),
+        modes: false,
     };
     while let Some(name) = words.next() {
         match name.as_str() {
@@ -66,6 +72,8 @@ pub fn parse(words: &mut dyn Iterator<Item = String>) -> Result<Options, String>
             "--runs" => options.counts[2] = number(words, &name)?,
             "--cases" => options.counts = scaled(number(words, &name)?),
             "--save" => options.save = PathBuf::from(value(words, &name)?),
+            "--modes" if modes::KNOWN => options.modes = true,
+            "--modes" => return Err(format!("--modes: {}", modes::UNKNOWN)),
             "--again" => options.task = Task::Again(PathBuf::from(value(words, &name)?)),
             "--corpus" => {
                 let input = PathBuf::from(value(words, &name)?);
@@ -73,6 +81,9 @@ pub fn parse(words: &mut dyn Iterator<Item = String>) -> Result<Options, String>
             }
             _ => return Err(format!("unknown option {name}")),
         }
+    }
+    if options.modes && matches!(options.task, Task::Corpus(..)) {
+        return Err(String::from("--corpus makes no calls: it takes no --modes"));
     }
     Ok(options)
 }

@@ -3,6 +3,7 @@
 
 use crate::call::{Arg, Call};
 use crate::guarded::Guarded;
+use crate::modes::Setting;
 use crate::signature::Service;
 
 extern "C" {
@@ -60,13 +61,15 @@ extern "C" {
     fn boundary_close(writer: *mut u64, writer_len: usize, buffer: *mut u8, len: usize) -> u64;
 }
 
-/// What the implementation left: its word, the arguments afterwards, and the
-/// guard bytes that it changed (argument, distance from the slice).
+/// What the implementation left: its word, the arguments afterwards, the
+/// guard bytes that it changed (argument, distance from the slice), and a
+/// line each if it changed the floating-point mode or flags.
 #[derive(Clone, Debug)]
 pub struct Seen {
     pub word: u64,
     pub args: Vec<Arg>,
     pub broken: Vec<(usize, i64)>,
+    pub left: Vec<String>,
 }
 
 /// The memory of a call: one guarded slice for each argument (an empty one
@@ -82,20 +85,20 @@ fn lend(call: &Call) -> Vec<Guarded> {
     memory
 }
 
-/// Calls a service over its memory.
+/// Calls a service over its memory, of so many elements each. In a mode
+/// nothing but this runs: there is no floating-point operation in it.
 ///
 /// # Safety
 /// The memory has an entry for each argument, with elements of the sizes in
 /// the service's parameters; the slices do not overlap.
-unsafe fn call_it(call: &Call, m: &mut [Guarded]) -> u64 {
-    let n: Vec<usize> = m.iter().map(|one| one.elements()).collect();
+unsafe fn call_it(call: &Call, m: &mut [Guarded], n: &[usize]) -> u64 {
     match call.service {
         Service::Check => boundary_check(m[0].pointer(), n[0]),
         Service::Count => boundary_count(m[0].pointer(), n[0], m[1].pointer(), n[1]),
         Service::Search => {
             boundary_search(m[0].pointer(), n[0], m[1].pointer(), n[1], m[2].pointer(), n[2])
         }
-        Service::Fetch => call_fetch(call.number(1), m, &n),
+        Service::Fetch => call_fetch(call.number(1), m, n),
         Service::ColumnWrite => boundary_column_write(m[0].pointer(), n[0], m[1].pointer(), n[1]),
         Service::ColumnRead => {
             boundary_column_read(m[0].pointer(), n[0], call.number(1) as usize, m[2].pointer(), n[2])
@@ -104,7 +107,7 @@ unsafe fn call_it(call: &Call, m: &mut [Guarded]) -> u64 {
             boundary_column_step(m[0].pointer(), n[0], call.number(1) as usize, m[2].pointer(), n[2])
         }
         Service::Open => boundary_open(m[0].pointer(), n[0], m[1].pointer(), n[1]),
-        Service::Page => call_page(m, &n),
+        Service::Page => call_page(m, n),
         Service::Close => boundary_close(m[0].pointer(), n[0], m[1].pointer(), n[1]),
     }
 }
@@ -148,11 +151,18 @@ unsafe fn call_page(m: &mut [Guarded], n: &[usize]) -> u64 {
     )
 }
 
-/// Runs a call on the implementation.
-pub fn run(call: &Call) -> Seen {
+/// Runs a call on the implementation: as it is, or in a floating-point mode.
+pub fn run(call: &Call, setting: Option<&Setting>) -> Seen {
     let mut memory = lend(call);
+    let n: Vec<usize> = memory.iter().map(|one| one.elements()).collect();
+    let mut word = 0;
+    let mut left = Vec::new();
     // `lend` made the memory by the service's own parameters.
-    let word = unsafe { call_it(call, &mut memory) };
+    let mut make = || word = unsafe { call_it(call, &mut memory, &n) };
+    match setting {
+        None => make(),
+        Some(setting) => left = setting.around(&mut make),
+    }
     let mut args = Vec::new();
     let mut broken = Vec::new();
     for (k, (arg, one)) in call.args.iter().zip(&memory).enumerate() {
@@ -162,5 +172,5 @@ pub fn run(call: &Call) -> Seen {
         });
         broken.extend(one.broken_guards().into_iter().map(|distance| (k, distance)));
     }
-    Seen { word, args, broken }
+    Seen { word, args, broken, left }
 }

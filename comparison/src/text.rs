@@ -2,7 +2,11 @@
 //! hexadecimal number of its full width; lines that start with # are notes.
 
 use crate::call::{Arg, Call};
+use crate::modes::Setting;
 use crate::signature::Service;
+
+/// How the line of a mode begins.
+const MODE: &str = "mode ";
 
 /// Elements as hexadecimal numbers, separated by spaces.
 pub fn elements(bytes: &[u8], size: usize) -> String {
@@ -39,6 +43,18 @@ pub fn call_text(call: &Call) -> String {
     text
 }
 
+/// A case in full: the floating-point mode of its call, if it has one, and
+/// the call.
+pub fn case_text(call: &Call, setting: Option<&Setting>) -> String {
+    let mode = setting.map(|setting| format!("{MODE}{}\n", setting.text()));
+    mode.unwrap_or_default() + &call_text(call)
+}
+
+/// The words of a case's mode; none if it has none.
+pub fn read_mode(text: &str) -> Option<&str> {
+    text.lines().find_map(|line| line.strip_prefix(MODE))
+}
+
 /// The bytes of the elements on a line.
 fn line_bytes(line: &str, size: usize, bytes: &mut Vec<u8>) -> Option<()> {
     for word in line.split_whitespace() {
@@ -51,9 +67,14 @@ fn line_bytes(line: &str, size: usize, bytes: &mut Vec<u8>) -> Option<()> {
     Some(())
 }
 
-/// A call from its text; none if it is not one.
+/// A line that says nothing of the call: a note, its mode, or an empty one.
+fn beside(line: &str) -> bool {
+    line.starts_with('#') || line.starts_with(MODE) || line.trim().is_empty()
+}
+
+/// The call of a case's text; none if it is not one.
 pub fn read_call(text: &str) -> Option<Call> {
-    let mut lines = text.lines().filter(|line| !line.starts_with('#') && !line.trim().is_empty()).peekable();
+    let mut lines = text.lines().filter(|line| !beside(line)).peekable();
     let service = Service::named(lines.next()?.strip_prefix("service ")?.trim())?;
     let mut args = Vec::new();
     for param in service.params() {

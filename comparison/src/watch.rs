@@ -2,7 +2,8 @@
 //! signal) or does not come back: the case, its seed and the call under way.
 
 use crate::call::Call;
-use crate::text::call_text;
+use crate::modes::{self, Setting};
+use crate::text::case_text;
 use std::path::Path;
 use std::sync::atomic::{AtomicPtr, Ordering};
 use std::sync::Mutex;
@@ -23,17 +24,21 @@ extern "C" {
 static NAME: Mutex<String> = Mutex::new(String::new());
 static FOLDER: Mutex<String> = Mutex::new(String::new());
 static CALL: AtomicPtr<Call> = AtomicPtr::new(std::ptr::null_mut());
+static SETTING: AtomicPtr<Setting> = AtomicPtr::new(std::ptr::null_mut());
 
 /// Prints and saves the call under way and ends. The signal comes out of the
-/// implementation, which holds none of the locks used here.
+/// implementation, which holds none of the locks used here, and maybe in
+/// another floating-point mode, which not every system puts back for this.
 extern "C" fn ended(number: i32) {
+    modes::set(modes::CLEAR);
     let name = NAME.try_lock().map(|name| name.clone()).unwrap_or_default();
     let folder = FOLDER.try_lock().map(|folder| folder.clone()).unwrap_or_default();
     let call = CALL.load(Ordering::SeqCst);
     let mut text = format!("# signal {number} in case {name}; the call under way, not shrunk:\n");
     if !call.is_null() {
-        // Set by `about_to_call` to a call that lives until `called`.
-        text.push_str(&call_text(unsafe { &*call }));
+        // Both set by `about_to_call` to what lives until `called`.
+        let setting = unsafe { SETTING.load(Ordering::SeqCst).as_ref() };
+        text.push_str(&case_text(unsafe { &*call }, setting));
     }
     println!("{text}");
     let path = Path::new(&folder).join(format!("CASE-{name}-signal.txt"));
@@ -68,8 +73,10 @@ pub fn case(name: &str, seed: u64) {
     }
 }
 
-/// A call is about to be made.
-pub fn about_to_call(call: &Call) {
+/// A call is about to be made, in a floating-point mode if there is one.
+pub fn about_to_call(call: &Call, setting: Option<&Setting>) {
+    let setting = setting.map_or(std::ptr::null(), |setting| setting as *const Setting);
+    SETTING.store(setting as *mut Setting, Ordering::SeqCst);
     CALL.store(call as *const Call as *mut Call, Ordering::SeqCst);
 }
 

@@ -1,13 +1,14 @@
 //! The generators and the corpus by themselves, with second/ as the judge.
 
-use comparing::call::{Arg, Call, Outcome};
+use comparing::call::{bytes_in, bytes_of, list_of, Arg, Call, Outcome};
 use comparing::corpus::{gather, line, record, too_large};
 use comparing::expected::expected;
 use comparing::face;
 use comparing::gen::draft::draft;
 use comparing::gen::encode::encode;
 use comparing::gen::plan::{plan, Plan, PAGE_FAULTS};
-use comparing::gen::run_cases;
+use comparing::gen::{run_cases, tiny_cases};
+use comparing::gen::floats::{SIGN, SUBNORMAL};
 use comparing::gen::values::{values, SORTS};
 use comparing::rng::Rng;
 use comparing::signature::{Service, SERVICES};
@@ -178,4 +179,69 @@ fn written_files_are_held_against_the_shapes_handed_in() {
         assert!(sink.fetches > 20, "{} fetches", sink.fetches);
         assert_eq!(sink.against > 20, wrong, "{} findings", sink.against);
     }
+}
+
+/// A taker of calls that counts the numbers of the checks, the reversed
+/// queries, and the counts and written boxes that turn on a subnormal.
+#[derive(Default)]
+struct AboutZero {
+    checks: [usize; 19],
+    reversed: usize,
+    counts: usize,
+    boxes: usize,
+}
+
+/// The pattern that a machine takes for it when it takes subnormals for zero.
+fn flushed(pattern: u64) -> u64 {
+    if pattern & !SIGN <= SUBNORMAL {
+        pattern & SIGN
+    } else {
+        pattern
+    }
+}
+
+/// A list with its subnormals taken for zero, as bytes.
+fn flushed_bytes(bytes: &[u8]) -> Vec<u8> {
+    bytes_of(&list_of::<u64>(bytes).into_iter().map(flushed).collect::<Vec<u64>>())
+}
+
+impl Sink for AboutZero {
+    fn call(&mut self, call: Call) -> Result<Outcome, Stop> {
+        let outcome = expected(&call);
+        match call.service {
+            Service::Check => self.checks[outcome.number()] += 1,
+            Service::Count if call.bytes(0).len() > 6 => {
+                let other = [&call.bytes(0)[..6], &flushed_bytes(&call.bytes(0)[6..])].concat();
+                let turns = face::count(&other, call.bytes(1)) != outcome.word;
+                self.reversed += usize::from(turns && outcome.number() == 1);
+                self.counts += usize::from(turns && outcome.good());
+            }
+            Service::Page if outcome.good() => {
+                let at = call.list::<u64>(0)[0] as usize + 12;
+                let stored = &bytes_in(&outcome.args, 1)[at..at + 32];
+                self.boxes += usize::from(flushed_bytes(stored) != stored);
+            }
+            _ => {}
+        }
+        Ok(outcome)
+    }
+
+    fn against(&mut self, _call: Call, _why: String) -> Stop {
+        Stop
+    }
+
+    fn kind(&mut self, _kind: &str) {}
+}
+
+#[test]
+fn cases_about_zero_turn_on_subnormals() {
+    let mut sink = AboutZero::default();
+    for index in 0..160 {
+        let mut rng = Rng::of_case(7, 3, index);
+        assert!(tiny_cases::case(&mut sink, &mut rng, index).is_ok(), "index {index}");
+    }
+    let checks: Vec<usize> = [0, 7, 13, 14, 16].iter().map(|number| sink.checks[*number]).collect();
+    assert!(checks.iter().all(|count| *count >= 10), "{checks:?}");
+    let others = [sink.reversed, sink.counts, sink.boxes];
+    assert!(others.iter().all(|count| *count >= 60), "{others:?}");
 }

@@ -20,11 +20,18 @@ fn shapes(rng: &mut Rng, plan: &Plan) -> Vec<Vec<Shape>> {
     let mut all: Vec<Vec<Shape>> = Vec::new();
     for page in 0..plan.pages {
         let faulty = plan.faults.iter().any(|fault| fault.1 == page);
-        all.push(if faulty { pages::small(rng) } else { pages::page(rng) });
+        all.push(match (plan.tiny, faulty) {
+            (true, _) => pages::tiny(rng),
+            (false, true) => pages::small(rng),
+            (false, false) => pages::page(rng),
+        });
     }
     for (number, page) in &plan.faults {
         if let Some(page) = all.get_mut(*page) {
-            shape_damage::damage(rng, page, *number);
+            match (plan.tiny, *number) {
+                (true, 14) => shape_damage::off_by_little(rng, page),
+                _ => shape_damage::damage(rng, page, *number),
+            }
             if *number == 10 {
                 let ground = ground(rng);
                 page.push(shape(rng, 2, &ground));

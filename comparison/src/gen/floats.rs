@@ -6,6 +6,8 @@ use crate::rng::Rng;
 pub const SIGN: u64 = 1 << 63;
 pub const INFINITY: u64 = 0x7FF0_0000_0000_0000;
 pub const GREATEST: u64 = 0x7FEF_FFFF_FFFF_FFFF;
+/// The greatest subnormal value.
+pub const SUBNORMAL: u64 = 0x000F_FFFF_FFFF_FFFF;
 
 /// Patterns that are easily got wrong, all finite.
 pub const FINITE: [u64; 22] = [
@@ -95,4 +97,18 @@ pub fn any_finite(rng: &mut Rng) -> u64 {
             }
         }
     }
+}
+
+/// A pattern about zero, of either sign: zero, a subnormal, the least values
+/// that are none; seldom the greatest.
+pub fn about_zero(rng: &mut Rng) -> u64 {
+    let low = match rng.below(40) {
+        0 => GREATEST,
+        1..=11 => 0,
+        12..=23 => 1 + rng.below(3) as u64,
+        24..=29 => 1 + rng.word() % SUBNORMAL,
+        30..=34 => SUBNORMAL - rng.below(2) as u64,
+        _ => SUBNORMAL + 1 + rng.below(2) as u64,
+    };
+    low | (rng.word() & SIGN)
 }

@@ -21,4 +21,5 @@ pub mod run_pages;
 pub mod shape_damage;
 pub mod shapes;
 pub mod step_cases;
+pub mod tiny_cases;
 pub mod values;

@@ -1,7 +1,7 @@
 //! Pages of sound shapes: mostly small, at times at the limits.
 
 use crate::gen::floats::any_finite;
-use crate::gen::shapes::{ground, shape, Ground, Shape};
+use crate::gen::shapes::{ground, shape, Ground, Shape, Sort};
 use crate::rng::Rng;
 
 /// The most vertices and shapes of a page.
@@ -97,4 +97,21 @@ pub fn small(rng: &mut Rng) -> Vec<Shape> {
     let ground = ground(rng);
     let count = 1 + rng.below(4);
     mixed(rng, &ground, count)
+}
+
+/// A small sound page about zero. MultiPolygons are seldom in it, as their
+/// whole numbers would decide its box; now and then it has no vertex.
+pub fn tiny(rng: &mut Rng) -> Vec<Shape> {
+    let ground = Ground { centre: (0, 0), sort: Sort::Tiny };
+    let kinds: &[u8] = match rng.below(10) {
+        0 => &[0],
+        1 => &[1, 4, 6],
+        _ => &[0, 1, 1, 2, 3, 4, 5],
+    };
+    let mut shapes = Vec::new();
+    for _ in 0..1 + rng.below(3) {
+        let kind = rng.pick(kinds);
+        shapes.push(shape(rng, kind, &ground));
+    }
+    shapes
 }

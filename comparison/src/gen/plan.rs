@@ -19,6 +19,8 @@ pub struct Plan {
     pub swaps: usize,
     /// How many times bytes are damaged.
     pub bytes: usize,
+    /// The coordinates are about zero.
+    pub tiny: bool,
 }
 
 /// A number of pages: mostly few.

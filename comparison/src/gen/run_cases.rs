@@ -156,6 +156,12 @@ fn exact(sink: &mut dyn Sink, rng: &mut Rng) -> Result<(), Stop> {
     }
     buffer.clear();
     length -= rng.below(2);
+    written(sink, rng, pages, length)
+}
+
+/// A run that writes pages one after the other to a buffer of a length, and
+/// closes.
+pub fn written(sink: &mut dyn Sink, rng: &mut Rng, pages: Vec<Vec<Shape>>, length: usize) -> Result<(), Stop> {
     let mut run = fresh(rng, length);
     run.open(sink)?;
     for shapes in pages {

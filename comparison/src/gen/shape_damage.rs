@@ -2,7 +2,7 @@
 
 use crate::gen::floats::{NOT_FINITE, SIGN};
 use crate::gen::rings::{flat, Vertex};
-use crate::gen::shapes::{shape, Ground, Shape};
+use crate::gen::shapes::{shape, Ground, Shape, Sort};
 use crate::rng::Rng;
 
 /// Coordinates off the grid: halves, one past each end, large, tiny, beside
@@ -24,6 +24,16 @@ const OFF_GRID: [f64; 14] = [
     2.000_000_000_000_000_4,
 ];
 
+/// Coordinates off the grid by so little that a machine may take them for 0.
+const OFF_BY_LITTLE: [f64; 6] = [
+    5e-324,
+    -5e-324,
+    1e-310,
+    -2.225_073_858_507_201e-308,
+    2.225_073_858_507_201_4e-308,
+    -2.225_073_858_507_201_4e-308,
+];
+
 /// The number of a shape of one of the types; one is added if there is none.
 fn find(rng: &mut Rng, shapes: &mut Vec<Shape>, kinds: &[u8]) -> usize {
     let at: Vec<usize> = (0..shapes.len()).filter(|k| kinds.contains(&shapes[*k].kind)).collect();
@@ -31,7 +41,7 @@ fn find(rng: &mut Rng, shapes: &mut Vec<Shape>, kinds: &[u8]) -> usize {
         return rng.pick(&at);
     }
     let kind = rng.pick(kinds);
-    let ground = Ground { centre: (0, 0), wild: false };
+    let ground = Ground { centre: (0, 0), sort: Sort::Plain };
     let place = rng.below(shapes.len() + 1);
     let one = shape(rng, kind, &ground);
     shapes.insert(place, one);
@@ -76,13 +86,14 @@ fn not_closed(rng: &mut Rng, shapes: &mut Vec<Shape>) {
     }
 }
 
-/// 14: a MultiPolygon's coordinate off the grid; the ring stays closed.
-fn off_grid(rng: &mut Rng, shapes: &mut Vec<Shape>) {
+/// 14: a MultiPolygon's coordinate is one of those that are off the grid; the
+/// ring stays closed.
+fn off_grid(rng: &mut Rng, shapes: &mut Vec<Shape>, those: &[f64]) {
     let at = find(rng, shapes, &[6]);
     let ring = rng.below(shapes[at].parts.len());
     let ring = &mut shapes[at].parts[ring];
     let x = rng.once_in(2);
-    let pattern = rng.pick(&OFF_GRID).to_bits();
+    let pattern = rng.pick(those).to_bits();
     let place = rng.below(ring.len());
     let last = ring.len() - 1;
     *side(&mut ring[place], x) = pattern;
@@ -106,13 +117,18 @@ fn bad_turn(rng: &mut Rng, shapes: &mut Vec<Shape>) {
     }
 }
 
+/// 14 by a subnormal, or by the least value that is none.
+pub fn off_by_little(rng: &mut Rng, shapes: &mut Vec<Shape>) {
+    off_grid(rng, shapes, &OFF_BY_LITTLE);
+}
+
 /// The damage that gives a number from 12 to 15 (others do nothing). A page
 /// may grow by one shape.
 pub fn damage(rng: &mut Rng, shapes: &mut Vec<Shape>, number: usize) {
     match number {
         12 => not_finite(rng, shapes),
         13 => not_closed(rng, shapes),
-        14 => off_grid(rng, shapes),
+        14 => off_grid(rng, shapes, &OFF_GRID),
         15 => bad_turn(rng, shapes),
         _ => {}
     }

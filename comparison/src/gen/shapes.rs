@@ -1,7 +1,7 @@
 //! Sound shapes of every type.
 
 use crate::calls::Lists;
-use crate::gen::floats::any_finite;
+use crate::gen::floats::{about_zero, any_finite};
 use crate::gen::rings::{self, Vertex};
 use crate::rng::Rng;
 
@@ -13,11 +13,20 @@ pub struct Shape {
     pub parts: Vec<Vec<Vertex>>,
 }
 
+/// Which coordinates there are: whole numbers and quarters about a centre,
+/// any finite floats, or values about zero, mostly subnormal.
+#[derive(Clone, Copy, Debug, PartialEq, Eq)]
+pub enum Sort {
+    Plain,
+    Wild,
+    Tiny,
+}
+
 /// How the coordinates of a page lie.
 #[derive(Clone, Copy, Debug)]
 pub struct Ground {
     pub centre: (i64, i64),
-    pub wild: bool,
+    pub sort: Sort,
 }
 
 impl Shape {
@@ -32,14 +41,16 @@ impl Shape {
 pub fn ground(rng: &mut Rng) -> Ground {
     Ground {
         centre: (rng.within(-6, 6) * 40, rng.within(-6, 6) * 40),
-        wild: rng.once_in(4),
+        sort: if rng.once_in(4) { Sort::Wild } else { Sort::Plain },
     }
 }
 
 /// A vertex on a ground.
 fn vertex(rng: &mut Rng, ground: &Ground) -> Vertex {
-    if ground.wild {
-        return (any_finite(rng), any_finite(rng));
+    match ground.sort {
+        Sort::Wild => return (any_finite(rng), any_finite(rng)),
+        Sort::Tiny => return (about_zero(rng), about_zero(rng)),
+        Sort::Plain => {}
     }
     let x = ground.centre.0 as f64 + rng.within(-60, 60) as f64 / 4.0;
     let y = ground.centre.1 as f64 + rng.within(-60, 60) as f64 / 4.0;
@@ -50,7 +61,7 @@ fn vertex(rng: &mut Rng, ground: &Ground) -> Vertex {
 fn line(rng: &mut Rng, ground: &Ground, count: usize) -> Vec<Vertex> {
     let mut list = vec![vertex(rng, ground)];
     while list.len() < count.max(2) {
-        if ground.wild {
+        if ground.sort != Sort::Plain {
             list.push(vertex(rng, ground));
             continue;
         }
