@@ -8,6 +8,10 @@
  * Every call takes any input and returns: the numbers, bytes and words that are lent may be anything, and are judged in the order of the format's
  * description. Only the pointers and lengths must be true. Nothing is printed, no errno is set, and no signal is raised.
  *
+ * Floating point. No answer depends on the floating-point mode of the caller: a program may round as it likes, take subnormals for zero or flush them
+ * (as one linked with -ffast-math does), and unmask any exception. No call reckons with floats or compares them, but for one cast to a whole number,
+ * which is exact where it is made. So the mode and the flags are after a call what they were before it, and no SIGFPE comes from within.
+ *
  * Threads. There is no global state. Threads may call at the same time, as long as none writes to what another lends meanwhile.
  *
  * Stack. As measured on x86-64 by tests/cface/stack.c (measured on some inputs, not proved): the search takes about 70 KiB of its thread's stack, the
