@@ -10,7 +10,7 @@ use lib.Seq.{length-take-le, take-at, drop-drop, drop-append-add}
 use Rattle.le.specs.Number.{number, numberAt, bytesOf, Bytes}
 use Rattle.le.specs.Block.{blockHead}
 use Rattle.le.proofs.Numbers.{bytes-part}
-use Rattle.le.proofs.Bytes.{bytes-number, number-at-append}
+use Rattle.le.proofs.Bytes.{take-inside, bytes-number, number-at-append}
 use Rattle.le.proofs.Blocks.{length-head, head-len, head-kind}
 use Rattle.frame.specs.Step.{part}
 use Rattle.frame.specs.Whole.{blockOf}
@@ -20,6 +20,10 @@ use Rattle.frame.proofs.Found.{Stands}
 
 pub length-part : (s : List ℕ) (at len : ℕ) → at + len ≤ length s → length (part s at len) ≡ len
 length-part s at len h = length-take-le len (drop at s) (omega (arith, length-drop at s))
+
+-- a part of a part
+pub part-in : (s : List ℕ) (at len i k : ℕ) → i + k ≤ len → part (part s at len) i k ≡ part s (at + i) k
+part-in s at len i k h = take-inside k i len (drop at s) h ∙ ap (take k) (drop-drop i at s)
 
 -- the bytes of the number that stands at a place are those that stand there
 pub bytes-at : (k : ℕ) (s : List ℕ) (at : ℕ) → Bytes s → at + k ≤ length s → bytesOf k (numberAt k s at) ≡ part s at k

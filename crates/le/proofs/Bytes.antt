@@ -62,7 +62,8 @@ pub number-at-bytesOf : (k x : ℕ) (r : List ℕ) → numberAt k (bytesOf k x +
 unfolding numberAt
 number-at-bytesOf k x r = ap number (take-at (bytesOf k x) r k (length-bytesOf k x)) ∙ number-bytesOf k x
 
-take-inside : (k i n : ℕ) (l : List ℕ) → i + k ≤ n → take k (drop i (take n l)) ≡ take k (drop i l)
+-- k elements from i on, where the first n have them all
+pub take-inside : (k i n : ℕ) (l : List ℕ) → i + k ≤ n → take k (drop i (take n l)) ≡ take k (drop i l)
 take-inside k zero n l h = take-take k n l (omega arith)
 take-inside k (suc i) zero l h = absurd (omega arith)
 take-inside k (suc i) (suc n) [] h = refl

@@ -52,11 +52,15 @@ contents-contained h b ss e =
 
 -- ---- how many there are
 
--- as many counts and registers
+-- as many counts and registers as shapes, and as many lengths as parts
 module _ (h : Head) (b : List ℕ) where
   pub counts-long : length (countsOf h b) ≡ h .g
   unfolding countsOf
   counts-long = length-numbers 2 (h .g) b (h .layout .counts)
+
+  pub lens-long : length (lensOf h b) ≡ h .p
+  unfolding lensOf
+  lens-long = length-numbers 2 (h .p) b (h .layout .lens)
 
   registers-long : length (registersOf h b) ≡ h .g
   unfolding registersOf

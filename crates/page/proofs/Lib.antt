@@ -4,3 +4,4 @@ pub mod Orders
 pub mod Ruled
 pub mod Loading
 pub mod Contained
+pub mod Opening

@@ -1,3 +1,4 @@
 pub mod Given
 pub mod Contents
 pub mod Loaded
+pub mod Opened

@@ -1,4 +1,5 @@
 // A page's contents: its tables, its two columns as parts of the body, and the rules over them, in order.
 mod columns;
 pub mod contents;
+pub mod open;
 pub mod rules;
