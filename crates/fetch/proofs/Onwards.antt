@@ -10,12 +10,12 @@ use Rattle.answer.specs.declared.Refusal.{Refusal}
 use Rattle.answer.specs.Outcome.{refused, ok}
 use Rattle.frame.specs.declared.cursor.Cursor.{Cursor}
 use Rattle.frame.specs.declared.cursor.PageAt.{PageAt}
-use Rattle.frame.specs.Step.{page, end, firstOf, stepOf}
+use Rattle.frame.specs.Step.{page, end, stepOf}
 use Rattle.frame.specs.Frame.{Page, Frame, pageOf, frameOf}
-use Rattle.frame.proofs.Found.{first-is, Paged, page-is}
+use Rattle.frame.proofs.Found.{Paged, page-is}
 use Rattle.frame.proofs.Walks.{pages-on, shapes-on}
-use Rattle.frame.specs.Ahead.{Ahead}
-use Rattle.frame.proofs.Ahead.{ahead-first, ahead-end, ahead-page, ahead-fewer}
+use Rattle.frame.specs.Ahead.{Ahead, Begun}
+use Rattle.frame.proofs.Ahead.{ahead-end, ahead-page, ahead-fewer}
 use Rattle.page.proofs.Orders.{on-refused, on-value}
 use Rattle.fetch.specs.declared.seek.SeatAt.{SeatAt}
 use Rattle.fetch.specs.declared.seek.Sought.{Sought}
@@ -65,20 +65,14 @@ seated-page s place t d = page-is s (t .at) (t .page) (d .found)
 -- ---- from a cursor on
 
 -- from the first page
-pub onward-first : (s : List ℕ) (f : Frame) (c : Cursor) → frameOf s ≡ ok f → firstOf s ≡ ok c → Onward s c × (c .shapes ≡ 0)
-onward-first s f c e d =
-    let k = first-is s c d in
-    let m : c .pages ≡ 0 = ap (λ (x : Cursor). x .pages) (k .after) in
-    let z : c .shapes ≡ 0 = ap (λ (x : Cursor). x .shapes) (k .after) in (
-      record {
-        pages = f .pages;
-        ahead = ahead-first s f c e d .1;
-        same = λ n h.
-            (let i : n ≡ n - c .shapes = omega arith in
-            seat-sound s n f e ∙ ap₂ (λ (j l : ℕ). seekIn j l (f .pages)) (sym m) i);
-      },
-      z,
-    )
+pub onward-first : (s : List ℕ) (c : Cursor) → Begun s c → Onward s c
+onward-first s c b = record {
+  pages = b .frame .pages;
+  ahead = b .ahead;
+  same = λ n h.
+      (let i : n ≡ n - c .shapes = omega (arith, b .no-shape) in
+      seat-sound s n (b .frame) (b .framed) ∙ ap₂ (λ (j l : ℕ). seekIn j l (b .frame .pages)) (sym (b .no-page)) i);
+}
 
 module _ (s : List ℕ) (place : ℕ) (c : Cursor) (o : Onward s c) (h : c .shapes ≤ place) where
   -- at the end there is no shape at that place

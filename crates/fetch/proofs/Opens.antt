@@ -1,5 +1,5 @@
 -- The shape of a seat, by the ways through it: its page is refused, or it is cut from the page's lists; and the order of the service. Assumes nothing.
-use mathlib.Core.Path.{_≡_, refl, ap, _∙_}
+use mathlib.Core.Path.{_≡_, refl, sym, ap, subst, _∙_}
 use mathlib.Core.Bool.{true}
 use mathlib.Core.List.{List}
 use Prim.Native.Nat.{ℕ, _≤_, _<_}
@@ -7,24 +7,26 @@ use native.Mathlib.Omega.{arith}
 use lib.ListN.{length}
 use Rattle.answer.specs.Refusal.{onPage}
 use Rattle.answer.specs.declared.Refusal.{Refusal}
-use Rattle.answer.specs.declared.Verdict.the-variants as verdict
 use Rattle.answer.specs.Outcome.{Out, refused, ok, on, inPage}
-use Rattle.answer.specs.Rule.{judged, passed}
-use Rattle.answer.proofs.Outcomes.{in-page-refused, in-page-value}
-use Rattle.answer.proofs.Rules.{refused-passed}
+use Rattle.answer.proofs.Outcomes.{ok-inj, in-page-refused, in-page-value}
 use Rattle.le.proofs.Runs.{length-numbers}
 use Rattle.types.specs.Parts.{total, partsHold}
 use Rattle.types.proofs.Agreeing.{agree-even}
 use Rattle.types.proofs.Passed.{hold-agree, hold-total, agree-counts, parts-at-most}
 use Rattle.shape.specs.Outline.{Shape, outlinesOf, registered}
 use Rattle.frame.specs.declared.head.Head.{Head}
+use Rattle.frame.specs.declared.cursor.PageAt.{PageAt}
+use Rattle.frame.specs.Step.{page, stepOf}
+use Rattle.frame.specs.Frame.{pageOf}
+use Rattle.frame.proofs.Steps.{page-inj}
 use Rattle.page.specs.Contents.{registersOf, typesOf, countsOf, lensOf, contentsOf}
 use Rattle.page.specs.Loaded.{Loaded}
 use Rattle.page.proofs.Orders.{on-refused, on-value}
 use Rattle.page.proofs.Contained.{counts-long, loaded-ready}
 use Rattle.fetch.specs.declared.row.Row.{Row}
 use Rattle.fetch.specs.declared.span.Span.{Span}
-use Rattle.fetch.specs.Seek.{Seat, seatOf}
+use Rattle.fetch.specs.declared.seek.SeatAt.{SeatAt}
+use Rattle.fetch.specs.Seek.{Seat, seatOf, seatAt}
 use Rattle.fetch.specs.Row.{rowOf}
 use Rattle.fetch.specs.Span.{spanOf, shapeFrom}
 use Rattle.fetch.specs.Fetch.{shapeAt, shapeOf, shapeIn, Rooms, inRooms, fetchOf}
@@ -105,8 +107,20 @@ module _ (h : Head) (b counts lens xs ys : List ℕ) (y : Loaded h b counts lens
       on-value (shapeOf t) (inRooms rooms) (shapeFrom r p lens xs ys) (seat-contents t ss (y .shapes) ∙ e)
 
 -- a page that was not
-pub load-refused : (h : Head) (b : List ℕ) (k i : ℕ) (rooms : Rooms) (w : Refusal) → judged (verdict.Refused w) ≡ passed (contentsOf h b)
-    → on (shapeOf (record { page = k; index = i; held = record { head = h; body = b } })) (inRooms rooms) ≡ refused (onPage k w)
-load-refused h b k i rooms w j =
-    let t : Seat = record { page = k; index = i; held = record { head = h; body = b } } in
-    on-refused (shapeOf t) (inRooms rooms) (onPage k w) (seat-refused t w (refused-passed (contentsOf h b) w j))
+pub seat-bad : (t : Seat) (rooms : Rooms) (w : Refusal) → inPage (t .page) (contentsOf (t .held .head) (t .held .body)) ≡ refused w
+    → on (shapeOf t) (inRooms rooms) ≡ refused w
+unfolding shapeOf
+seat-bad t rooms w e = on-refused (shapeOf t) (inRooms rooms) w (on-refused (inPage (t .page) (contentsOf (t .held .head) (t .held .body))) _ w e)
+
+-- ---- the seat that the code found: its page is the one that is opened
+
+module _ (s : List ℕ) (t : SeatAt) (p : PageAt) where
+  same-page : stepOf s (t .at) ≡ ok (page (t .page)) → stepOf s (t .at) ≡ ok (page p) → t .page ≡ p
+  same-page e f = page-inj (ok-inj (sym e ∙ f))
+
+  pub index-within : stepOf s (t .at) ≡ ok (page (t .page)) → stepOf s (t .at) ≡ ok (page p) → t .index < t .page .head .g → t .index < p .head .g
+  index-within e f = subst (λ (x : PageAt). t .index < x .head .g) (same-page e f)
+
+  pub seat-page : (rooms : Rooms) → stepOf s (t .at) ≡ ok (page (t .page)) → stepOf s (t .at) ≡ ok (page p)
+      → on (shapeOf (seatAt s t)) (inRooms rooms) ≡ on (shapeOf (record { page = t .at .pages; index = t .index; held = pageOf s p })) (inRooms rooms)
+  seat-page rooms e f = ap (λ (x : PageAt). on (shapeOf (record { page = t .at .pages; index = t .index; held = pageOf s x })) (inRooms rooms)) (same-page e f)

@@ -5,9 +5,7 @@ use crate::opened::opened;
 use crate::seek::Sought;
 use crate::seek::seek;
 use answer::Refusal;
-use frame::walk::FirstRead;
-use frame::walk::Framed;
-use frame::walk::first;
+use frame::walk::Checked;
 use frame::walk::frame;
 
 // A shape that was fetched: its register and type, and how many part lengths and vertices stand at the start of the rooms.
@@ -28,12 +26,9 @@ pub enum Fetched {
 fn seat(s: &[u8], place: usize) -> Sought
     ensures { λ r. ⌜ Seeks (now (s .entry)) place r ⌝ }
 {
-    if let Framed::Refused(w) = frame(s) {
-        return Sought::Refused(w);
-    }
-    match first(s) {
-        FirstRead::Refused(w) => Sought::Refused(w),
-        FirstRead::After(c) => seek(s, c, place),
+    match frame(s) {
+        Checked::Refused(w) => Sought::Refused(w),
+        Checked::Sound(t) => seek(s, t.first, place),
     }
 }
 

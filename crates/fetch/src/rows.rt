@@ -17,9 +17,7 @@ use answer::Refusal;
 use answer::table::PLACE;
 use answer::table::ROOM;
 use frame::cursor::Cursor;
-use frame::walk::FirstRead;
-use frame::walk::Framed;
-use frame::walk::first;
+use frame::walk::Checked;
 use frame::walk::frame;
 
 // Whether each place has a shape, in a file of so many.
@@ -87,8 +85,8 @@ pub fn rows(s: &[u8], places: &[u32], registers: &mut [u32], types: &mut [u8]) -
     ensures types { λ r. ⌜ Fills (typesFrom (rowsOf (now (s .entry)) (now (places .entry)) (length (now (registers .entry))) (length (now (types .entry))))) (now (types .entry)) r (now (types .exit)) ⌝ }
 {
     match frame(s) {
-        Framed::Refused(w) => Filled::Refused(w),
-        Framed::Sound(t) => {
+        Checked::Refused(w) => Filled::Refused(w),
+        Checked::Sound(t) => {
             if !all_there(places, t.shapes) {
                 return Filled::Refused(Refusal::because(PLACE));
             }
@@ -98,10 +96,7 @@ pub fn rows(s: &[u8], places: &[u32], registers: &mut [u32], types: &mut [u8]) -
             if types.len() < places.len() {
                 return Filled::Refused(Refusal::because(ROOM));
             }
-            match first(s) {
-                FirstRead::Refused(w) => Filled::Refused(w),
-                FirstRead::After(c) => put_rows(s, c, places, registers, types),
-            }
+            put_rows(s, t.first, places, registers, types)
         }
     }
 }

@@ -1,4 +1,4 @@
--- The full check, by the ways through it; and an answer is determined by what it says. Assumes nothing.
+-- The full check, by the ways through it. Assumes nothing.
 use Prim.Native.Nat.{ℕ}
 use mathlib.Core.Path.{_≡_, sym, ap, _∙_}
 use mathlib.Core.List.{List}
@@ -6,20 +6,18 @@ use Rattle.answer.specs.Outcome.{refused, ok}
 use Rattle.answer.specs.Rule.{judged, passed}
 use Rattle.answer.specs.declared.Refusal.{Refusal}
 use Rattle.answer.specs.declared.Verdict.the-variants as verdict
-use Rattle.answer.proofs.Outcomes.{never, ok-inj, refused-inj, on-ok}
+use Rattle.answer.proofs.Outcomes.{ok-inj, on-ok}
 use Rattle.answer.proofs.Rules.{holds-passed, refused-passed}
 use Rattle.frame.specs.declared.cursor.Cursor.{Cursor}
 use Rattle.frame.specs.declared.walk.Totals.{Totals}
-use Rattle.frame.specs.Step.{firstOf}
 use Rattle.frame.specs.Frame.{Frame, frameOf, totalsOf}
-use Rattle.frame.proofs.Found.{first-is}
-use Rattle.frame.proofs.Ahead.{ahead-first}
+use Rattle.frame.specs.Ahead.{Begun}
+use Rattle.frame.specs.Said.{saidChecked}
+use Rattle.frame.specs.declared.walk.Checked.the-variants.{Sound, Refused}
 use Rattle.shape.specs.Outline.{Shape}
 use Rattle.page.proofs.Orders.{on-refused, on-value}
-use Rattle.file.specs.declared.check.Checked.{Checked}
-use Rattle.file.specs.declared.check.Checked.the-variants.{Sound, Refused}
 use Rattle.file.specs.File.{pagesOf, restOf, shapesIn}
-use Rattle.file.specs.Check.{checkOf, saidCheck}
+use Rattle.file.specs.Check.{checkOf}
 use Rattle.file.proofs.Rests.{rest-is}
 
 module _ (s : List ℕ) (f : Frame) (e : frameOf s ≡ ok f) where
@@ -28,47 +26,37 @@ module _ (s : List ℕ) (f : Frame) (e : frameOf s ≡ ok f) where
   unfolding shapesIn
   shapes-are = on-value (frameOf s) _ f e
 
-  -- and all that is left after the first block
-  pub shapes-after : (c : Cursor) → firstOf s ≡ ok c → shapesIn s ≡ restOf s c
-  shapes-after c q =
-      let a = ahead-first s f c e q in
-      let z : c .pages ≡ 0 = ap (λ (x : Cursor). x .pages) (first-is s c q .after) in
-      shapes-are ∙ ap (λ (k : ℕ). pagesOf k (f .pages)) (sym z) ∙ sym (rest-is s c (f .pages) (a .1))
+-- and all that is left after the first block
+pub shapes-after : (s : List ℕ) (c : Cursor) → Begun s c → shapesIn s ≡ restOf s c
+shapes-after s c b =
+    let ps = b .frame .pages in
+    shapes-are s (b .frame) (b .framed) ∙ ap (λ (k : ℕ). pagesOf k ps) (sym (b .no-page)) ∙ sym (rest-is s c ps (b .ahead))
 
 -- ---- the check's answers
 
 -- the frame is refused
-pub check-frame : (s : List ℕ) (w : Refusal) → frameOf s ≡ refused w → saidCheck (Refused w) ≡ checkOf s
-unfolding checkOf saidCheck
+pub check-frame : (s : List ℕ) (w : Refusal) → frameOf s ≡ refused w → saidChecked (Refused w) ≡ checkOf s
+unfolding checkOf saidChecked
 check-frame s w e = sym (on-refused (frameOf s) _ w e)
 
 module _ (s : List ℕ) (f : Frame) (t : Totals) (e : frameOf s ≡ ok f) (q : totalsOf f ≡ t) where
   -- a page's contents are refused
-  pub check-contents : (w : Refusal) → judged (verdict.Refused w) ≡ passed (shapesIn s) → saidCheck (Refused w) ≡ checkOf s
-  unfolding checkOf saidCheck
+  pub check-contents : (w : Refusal) → judged (verdict.Refused w) ≡ passed (shapesIn s) → saidChecked (Refused w) ≡ checkOf s
+  unfolding checkOf saidChecked
   check-contents w j =
       sym
       (on-value (frameOf s) _ f e
       ∙ on-refused (pagesOf 0 (f .pages)) _ w (sym (shapes-are s f e) ∙ refused-passed (shapesIn s) w j))
 
   -- all is sound
-  pub check-sound : judged verdict.Holds ≡ passed (shapesIn s) → saidCheck (Sound t) ≡ checkOf s
-  unfolding checkOf saidCheck
+  pub check-sound : judged verdict.Holds ≡ passed (shapesIn s) → saidChecked (Sound t) ≡ checkOf s
+  unfolding checkOf saidChecked
   check-sound j =
       let h = holds-passed (shapesIn s) j in
       sym
       (on-value (frameOf s) _ f e
       ∙ on-value (pagesOf 0 (f .pages)) _ (h .0) (sym (shapes-are s f e) ∙ h .1)
       ∙ ap ok q)
-
--- ---- what an answer says
-
-pub said-check-one : (a b : Checked) → saidCheck a ≡ saidCheck b → a ≡ b
-unfolding saidCheck
-said-check-one (Sound a) (Sound b) e = ap Sound (ok-inj e)
-said-check-one (Sound a) (Refused w) e = absurd (never (sym e))
-said-check-one (Refused w) (Sound b) e = absurd (never e)
-said-check-one (Refused w) (Refused x) e = ap Refused (refused-inj e)
 
 -- ---- what acceptance gives: the frame, and the shapes of its pages
 

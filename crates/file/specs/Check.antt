@@ -1,11 +1,9 @@
 -- "Full check: frame, then each page's contents." Assumes nothing.
 use Prim.Native.Nat.{ℕ}
 use mathlib.Core.List.{List}
-use Rattle.answer.specs.Outcome.{Out, refused, ok, on}
+use Rattle.answer.specs.Outcome.{Out, ok, on}
 use Rattle.frame.specs.declared.walk.Totals.{Totals}
 use Rattle.frame.specs.Frame.{frameOf, totalsOf}
-use Rattle.file.specs.declared.check.Checked.{Checked}
-use Rattle.file.specs.declared.check.Checked.the-variants.{Sound, Refused}
 use Rattle.file.specs.File.{pagesOf}
 
 -- how many pages and shapes, or the refusal with its page
@@ -14,8 +12,3 @@ checkOf s =
     on (frameOf s) (λ f.
     on (pagesOf 0 (f .pages)) (λ _.
     ok (totalsOf f)))
-
--- what the code's answer says
-unfoldable pub saidCheck : Checked → Out Totals
-saidCheck (Sound t) = ok t
-saidCheck (Refused w) = refused w

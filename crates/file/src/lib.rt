@@ -1,3 +1,2 @@
 // A file: the full check.
 pub mod check;
-mod scratch;

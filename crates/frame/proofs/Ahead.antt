@@ -6,15 +6,19 @@ use mathlib.Core.List.{List, [], _∷_}
 use native.Mathlib.Omega.{arith}
 use lib.ListN.{length}
 use Rattle.answer.specs.declared.Refusal.{Refusal}
-use Rattle.answer.specs.Outcome.{Out, refused, ok}
+use Rattle.answer.specs.Outcome.{Out, refused, ok, on}
 use Rattle.answer.proofs.Outcomes.{never, ok-inj, on-ok}
 use Rattle.frame.specs.declared.cursor.Cursor.{Cursor}
 use Rattle.frame.specs.declared.cursor.PageAt.{PageAt}
-use Rattle.frame.specs.Step.{Turn, page, end, firstOf, stepOf, endsAt}
-use Rattle.frame.specs.Frame.{Page, Frame, pageOf, walk, frameOf}
-use Rattle.frame.specs.Ahead.{Ahead}
+use Rattle.frame.specs.declared.walk.Checked.{Checked}
+use Rattle.frame.specs.declared.walk.Checked.the-variants.{Sound}
+use Rattle.frame.specs.declared.walk.Totals.{Totals}
+use Rattle.frame.specs.Step.{Turn, page, end, firstCursor, firstOf, stepOf, endsAt}
+use Rattle.frame.specs.Frame.{Page, Frame, pageOf, walk, frameOf, totalsOf}
+use Rattle.frame.specs.Said.{saidChecked}
+use Rattle.frame.specs.Ahead.{Ahead, Begun}
 use Rattle.frame.proofs.Found.{page-is, first-is, ends-end, ends-page}
-use Rattle.frame.proofs.Walks.{within-on, fewer-on, fuel, fuel-on, walk-refused, walk-end, walk-page}
+use Rattle.frame.proofs.Walks.{within-on, fewer-on, fuel, fuel-on, walk-refused, walk-end, walk-page, first-cursor, sound-said}
 
 -- at the start all pages of the frame
 pub ahead-start : (s : List ℕ) (f : Frame) → frameOf s ≡ ok f → (c : Cursor) × (firstOf s ≡ ok c) × (c .edition ≡ f .edition) × Ahead s c (f .pages)
@@ -36,14 +40,19 @@ ahead-start s f e =
       },
     )
 
--- the same, for a cursor that `first` gave; and the first block is not refused
-pub ahead-first : (s : List ℕ) (f : Frame) (c : Cursor) → frameOf s ≡ ok f → firstOf s ≡ ok c → (c .edition ≡ f .edition) × Ahead s c (f .pages)
-ahead-first s f c e d =
-    let a = ahead-start s f e in
-    subst (λ (x : Cursor). (x .edition ≡ f .edition) × Ahead s x (f .pages)) (ok-inj (sym (a .1) ∙ d)) (a .2, a .3)
-
-pub first-never : (s : List ℕ) (f : Frame) (w : Refusal) → frameOf s ≡ ok f → firstOf s ≡ refused w → ⊥
-first-never s f w e d = never (sym d ∙ ahead-start s f e .1)
+-- what the code was told of a sound frame: its pages are to come from the cursor that it hands back
+pub begun-said : (s : List ℕ) (r : Checked) → saidChecked r ≡ on (frameOf s) (λ f. ok (totalsOf f)) → (t : Totals) → r ≡ Sound t → Begun s (t .first)
+begun-said s r q t e =
+    let f = sound-said s r q t e in
+    let a = ahead-start s (f .0) (f .1) in
+    let k : firstCursor (f .0 .edition) ≡ t .first = ap (λ (x : Totals). x .first) (f .2) in
+    record {
+      frame = f .0;
+      framed = f .1;
+      no-page = ap (λ (x : Cursor). x .pages) (sym k);
+      no-shape = ap (λ (x : Cursor). x .shapes) (sym k);
+      ahead = subst (λ (x : Cursor). Ahead s x (f .0 .pages)) (first-cursor s (a .0) (a .1) ∙ ap firstCursor (a .2) ∙ k) (a .3);
+    }
 
 -- what is to come is determined
 pub ahead-one : (s : List ℕ) (c : Cursor) (ps qs : List Page) → Ahead s c ps → Ahead s c qs → ps ≡ qs

@@ -11,13 +11,13 @@ use Rattle.frame.specs.declared.cursor.Cursor.{Cursor}
 use Rattle.frame.specs.declared.cursor.PageAt.{PageAt}
 use Rattle.frame.specs.declared.walk.FirstRead.{FirstRead}
 use Rattle.frame.specs.declared.walk.FirstRead.the-variants as first
-use Rattle.frame.specs.declared.walk.Framed.{Framed}
-use Rattle.frame.specs.declared.walk.Framed.the-variants as framed
+use Rattle.frame.specs.declared.walk.Checked.{Checked}
+use Rattle.frame.specs.declared.walk.Checked.the-variants as checked
 use Rattle.frame.specs.declared.walk.Totals.{Totals}
-use Rattle.frame.specs.Step.{part, Turn, page, end, firstOf, stepOf}
+use Rattle.frame.specs.Step.{part, Turn, page, end, firstCursor, firstOf, stepOf}
 use Rattle.frame.specs.Frame.{Page, Frame, pageOf, walk, frameOf, shapesOf, pageTotals, totalsOf}
 use Rattle.frame.specs.Ahead.{Within}
-use Rattle.frame.specs.Said.{saidFirst, saidFrame}
+use Rattle.frame.specs.Said.{saidFirst, saidChecked}
 use Rattle.frame.proofs.Heads.{head-is, head-limits}
 use Rattle.frame.proofs.Steps.{first-said, first-refusal-said}
 use Rattle.frame.proofs.Found.{first-is, Paged, page-is}
@@ -85,52 +85,52 @@ walk-enough (suc k) n s c w h =
 -- ---- the totals, as they are counted
 
 -- with what lies before the cursor
-abbrev pub countFrom : Cursor → List Page → Totals
-countFrom c ps = record { pages = c .pages + length ps; shapes = c .shapes + shapesOf ps }
+abbrev pub countFrom : Cursor → Cursor → List Page → Totals
+countFrom from c ps = record { pages = c .pages + length ps; shapes = c .shapes + shapesOf ps; first = from }
 
 pub record Walking (s : List ℕ) (from c : Cursor) : Type 0 where
   pub within : Within c
-  pub same : on (walk 1025 s from) (λ ps. ok (pageTotals ps)) ≡ on (walk (1025 - c .pages) s c) (λ ps. ok (countFrom c ps))
+  pub same : on (walk 1025 s from) (λ ps. ok (pageTotals from ps)) ≡ on (walk (1025 - c .pages) s c) (λ ps. ok (countFrom from c ps))
 
 -- nothing yet
-count-none : (c : Cursor) (x : Out (List Page)) → c .pages ≡ 0 → c .shapes ≡ 0 → on x (λ ps. ok (pageTotals ps)) ≡ on x (λ ps. ok (countFrom c ps))
+count-none : (c : Cursor) (x : Out (List Page)) → c .pages ≡ 0 → c .shapes ≡ 0 → on x (λ ps. ok (pageTotals c ps)) ≡ on x (λ ps. ok (countFrom c c ps))
 unfolding on
 count-none c (refused w) a b = refl
 count-none c (ok ps) a b =
     let m : length ps ≡ c .pages + length ps = omega (arith, a) in
     let n : shapesOf ps ≡ c .shapes + shapesOf ps = omega (arith, b) in
-    λ i. ok (record { pages = m i; shapes = n i })
+    λ i. ok (record { pages = m i; shapes = n i; first = c })
 
 pub walking-start : (s : List ℕ) (c : Cursor) → c .pages ≡ 0 → c .shapes ≡ 0 → Walking s c c
 walking-start s c a b =
     let all : 1025 ≡ 1025 - c .pages = omega (arith, a) in
     record {
       within = record { pages = omega arith; shapes = omega arith };
-      same = count-none c (walk 1025 s c) a b ∙ ap (λ (n : ℕ). on (walk n s c) (λ ps. ok (countFrom c ps))) all;
+      same = count-none c (walk 1025 s c) a b ∙ ap (λ (n : ℕ). on (walk n s c) (λ ps. ok (countFrom c c ps))) all;
     }
 
 -- a page more
-count-more : (s : List ℕ) (c : Cursor) (p : PageAt) (x : Out (List Page)) → p .next .pages ≡ c .pages + 1 → p .next .shapes ≡ c .shapes + p .head .g
-    → on (on x (λ ps. ok (pageOf s p ∷ ps))) (λ ps. ok (countFrom c ps)) ≡ on x (λ ps. ok (countFrom (p .next) ps))
+count-more : (s : List ℕ) (from c : Cursor) (p : PageAt) (x : Out (List Page)) → p .next .pages ≡ c .pages + 1 → p .next .shapes ≡ c .shapes + p .head .g
+    → on (on x (λ ps. ok (pageOf s p ∷ ps))) (λ ps. ok (countFrom from c ps)) ≡ on x (λ ps. ok (countFrom from (p .next) ps))
 unfolding on shapesOf
-count-more s c p (refused w) a b = refl
-count-more s c p (ok ps) a b =
+count-more s from c p (refused w) a b = refl
+count-more s from c p (ok ps) a b =
     let m : c .pages + suc (length ps) ≡ p .next .pages + length ps = omega (arith, a) in
     let n : c .shapes + (p .head .g + shapesOf ps) ≡ p .next .shapes + shapesOf ps = omega (arith, b) in
-    λ i. ok (record { pages = m i; shapes = n i })
+    λ i. ok (record { pages = m i; shapes = n i; first = from })
 
 module _ (s : List ℕ) (from c : Cursor) (w : Walking s from c) where
-  pub walking-refused : (x : Refusal) → stepOf s c ≡ refused x → saidFrame (framed.Refused x) ≡ on (walk 1025 s from) (λ ps. ok (pageTotals ps))
-  unfolding saidFrame on
+  pub walking-refused : (x : Refusal) → stepOf s c ≡ refused x → saidChecked (checked.Refused x) ≡ on (walk 1025 s from) (λ ps. ok (pageTotals from ps))
+  unfolding saidChecked on
   walking-refused x e = sym (w .same ∙ rw (fuel c (w .within), walk-refused s c (1024 - c .pages) x e))
 
   pub walking-end : stepOf s c ≡ ok end
-      → saidFrame (framed.Sound (record { pages = c .pages; shapes = c .shapes })) ≡ on (walk 1025 s from) (λ ps. ok (pageTotals ps))
-  unfolding saidFrame on shapesOf
+      → saidChecked (checked.Sound (record { pages = c .pages; shapes = c .shapes; first = from })) ≡ on (walk 1025 s from) (λ ps. ok (pageTotals from ps))
+  unfolding saidChecked on shapesOf
   walking-end e =
       let m : c .pages + 0 ≡ c .pages = omega arith in
       let n : c .shapes + 0 ≡ c .shapes = omega arith in
-      sym (w .same ∙ rw (fuel c (w .within), walk-end s c (1024 - c .pages) e) (λ i. ok (record { pages = m i; shapes = n i })))
+      sym (w .same ∙ rw (fuel c (w .within), walk-end s c (1024 - c .pages) e) (λ i. ok (record { pages = m i; shapes = n i; first = from })))
 
   module _ (p : PageAt) (e : stepOf s c ≡ ok (page p)) where
     pub walking-fewer : 1025 - p .next .pages < 1025 - c .pages
@@ -143,14 +143,20 @@ module _ (s : List ℕ) (from c : Cursor) (w : Walking s from c) where
           within = within-on s c (w .within) p k;
           same = w .same
               ∙ rw (fuel c (w .within), fuel-on s c (w .within) p k, walk-page s c (1024 - c .pages) p e)
-              (count-more s c p (walk (1024 - c .pages) s (p .next)) (pages-on s c (w .within) p k) (shapes-on s c (w .within) p k));
+              (count-more s from c p (walk (1024 - c .pages) s (p .next)) (pages-on s c (w .within) p k) (shapes-on s c (w .within) p k));
         }
 
 -- ---- the whole frame
 
+-- the cursor after the first block, by the edition
+pub first-cursor : (s : List ℕ) (c : Cursor) → firstOf s ≡ ok c → c ≡ firstCursor (c .edition)
+first-cursor s c e =
+    let k = first-is s c e .after in
+    k ∙ ap firstCursor (sym (ap (λ (x : Cursor). x .edition) k))
+
 module _ (s : List ℕ) (r : FirstRead) (f : saidFirst r ≡ firstOf s) where
-  pub frame-refused : (w : Refusal) → r ≡ first.Refused w → saidFrame (framed.Refused w) ≡ on (frameOf s) (λ f. ok (totalsOf f))
-  unfolding saidFrame frameOf on
+  pub frame-refused : (w : Refusal) → r ≡ first.Refused w → saidChecked (checked.Refused w) ≡ on (frameOf s) (λ f. ok (totalsOf f))
+  unfolding saidChecked frameOf on
   frame-refused w e = rw (first-refusal-said s r f w e)
 
   -- the walk starts with no page and no shape
@@ -159,25 +165,25 @@ module _ (s : List ℕ) (r : FirstRead) (f : saidFirst r ≡ firstOf s) where
       let k = first-is s c (first-said s r f c e) in
       (ap (λ (x : Cursor). x .pages) (k .after), ap (λ (x : Cursor). x .shapes) (k .after))
 
-  pub frame-walk : (c : Cursor) → r ≡ first.After c → (x : Out Totals) → x ≡ on (walk 1025 s c) (λ ps. ok (pageTotals ps))
+  pub frame-walk : (c : Cursor) → r ≡ first.After c → (x : Out Totals) → x ≡ on (walk 1025 s c) (λ ps. ok (pageTotals c ps))
       → x ≡ on (frameOf s) (λ f. ok (totalsOf f))
   unfolding frameOf on
   frame-walk c e x q = q ∙ rw (first-said s r f c e) (joined (walk 1025 s c))
     where
-      joined : (y : Out (List Page)) → on y (λ ps. ok (pageTotals ps)) ≡ on (on y (λ ps. ok (record { edition = c .edition; pages = ps }))) (λ f. ok (totalsOf f))
+      joined : (y : Out (List Page)) → on y (λ ps. ok (pageTotals c ps)) ≡ on (on y (λ ps. ok (record { edition = c .edition; pages = ps }))) (λ f. ok (totalsOf f))
       joined (refused w) = refl
-      joined (ok ps) = refl
+      joined (ok ps) = ap (λ (a : Cursor). ok (pageTotals a ps)) (first-cursor s c (first-said s r f c e))
 
 -- what the code was told
-module _ (s : List ℕ) (r : Framed) (q : saidFrame r ≡ on (frameOf s) (λ f. ok (totalsOf f))) where
-  pub sound-said : (t : Totals) → r ≡ framed.Sound t → (f : Frame) × (frameOf s ≡ ok f) × (totalsOf f ≡ t)
-  unfolding saidFrame
+module _ (s : List ℕ) (r : Checked) (q : saidChecked r ≡ on (frameOf s) (λ f. ok (totalsOf f))) where
+  pub sound-said : (t : Totals) → r ≡ checked.Sound t → (f : Frame) × (frameOf s ≡ ok f) × (totalsOf f ≡ t)
+  unfolding saidChecked
   sound-said t e =
       let a = on-ok (frameOf s) _ t (sym q ∙ rw e) in
       (a .0, a .1, ok-inj (a .2))
 
-  pub frame-refusal-said : (w : Refusal) → r ≡ framed.Refused w → frameOf s ≡ refused w
-  unfolding saidFrame on
+  pub frame-refusal-said : (w : Refusal) → r ≡ checked.Refused w → frameOf s ≡ refused w
+  unfolding saidChecked on
   frame-refusal-said w e = go (frameOf s) (sym q ∙ rw e)
     where
       go : (x : Out Frame) → on x (λ f. ok (totalsOf f)) ≡ refused w → x ≡ refused w
@@ -185,9 +191,9 @@ module _ (s : List ℕ) (r : Framed) (q : saidFrame r ≡ on (frameOf s) (λ f. 
       go (ok f) h = absurd (never (sym h))
 
 -- an answer is determined by what it says
-pub said-frame-one : (x y : Framed) → saidFrame x ≡ saidFrame y → x ≡ y
-unfolding saidFrame
-said-frame-one (framed.Sound a) (framed.Sound b) e = ap framed.Sound (ok-inj e)
-said-frame-one (framed.Sound a) (framed.Refused w) e = absurd (never (sym e))
-said-frame-one (framed.Refused w) (framed.Sound b) e = absurd (never e)
-said-frame-one (framed.Refused w) (framed.Refused x) e = ap framed.Refused (refused-inj e)
+pub said-checked-one : (x y : Checked) → saidChecked x ≡ saidChecked y → x ≡ y
+unfolding saidChecked
+said-checked-one (checked.Sound a) (checked.Sound b) e = ap checked.Sound (ok-inj e)
+said-checked-one (checked.Sound a) (checked.Refused w) e = absurd (never (sym e))
+said-checked-one (checked.Refused w) (checked.Sound b) e = absurd (never e)
+said-checked-one (checked.Refused w) (checked.Refused x) e = ap checked.Refused (refused-inj e)

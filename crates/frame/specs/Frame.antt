@@ -9,7 +9,7 @@ use Rattle.frame.specs.declared.head.Head.{Head}
 use Rattle.frame.specs.declared.cursor.Cursor.{Cursor}
 use Rattle.frame.specs.declared.cursor.PageAt.{PageAt}
 use Rattle.frame.specs.declared.walk.Totals.{Totals}
-use Rattle.frame.specs.Step.{Turn, page, end, part, firstOf, stepOf}
+use Rattle.frame.specs.Step.{Turn, page, end, part, firstCursor, firstOf, stepOf}
 
 -- a page: its head and its body
 pub record Page : Type 0 where
@@ -48,10 +48,10 @@ unfoldable pub shapesOf : List Page → ℕ
 shapesOf [] = 0
 shapesOf (p ∷ ps) = p .head .g + shapesOf ps
 
--- how many pages, and how many shapes
-abbrev pub pageTotals : List Page → Totals
-pageTotals ps = record { pages = length ps; shapes = shapesOf ps }
+-- how many pages, and how many shapes, from a first cursor on
+abbrev pub pageTotals : Cursor → List Page → Totals
+pageTotals c ps = record { pages = length ps; shapes = shapesOf ps; first = c }
 
--- those of a frame
+-- those of a frame, whose first block takes 8 bytes
 abbrev pub totalsOf : Frame → Totals
-totalsOf f = pageTotals (f .pages)
+totalsOf f = pageTotals (firstCursor (f .edition)) (f .pages)

@@ -24,6 +24,10 @@ part s at len = take len (drop at s)
 
 -- ---- the first block
 
+-- the cursor after it
+abbrev pub firstCursor : ℕ → Cursor
+firstCursor edition = record { edition = edition; at = 8; pages = 0; shapes = 0 }
+
 -- a block that was found, as the first: kind 1, length 2, edition 1
 unfoldable pub firstStep : List ℕ → Block → Out Cursor
 firstStep s b =

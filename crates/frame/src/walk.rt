@@ -6,7 +6,7 @@ ghost use Rattle.answer.specs.Outcome.{on, ok, refused};
 ghost use Rattle.answer.specs.Refusal.{because};
 ghost use Rattle.frame.specs.Step.{firstStep, firstOf};
 ghost use Rattle.frame.specs.Frame.{walk, pageTotals, frameOf, totalsOf};
-ghost use Rattle.frame.specs.Said.{saidFirst, saidFrame};
+ghost use Rattle.frame.specs.Said.{saidFirst, saidChecked};
 use crate::cursor::Cursor;
 use crate::read::at_end;
 use crate::read::glance;
@@ -19,19 +19,20 @@ use le::block::block_at;
 use le::number::u16_at;
 
 // The cursor after the first block, or the refusal.
-pub enum FirstRead {
+pub(crate) enum FirstRead {
     After(Cursor),
     Refused(Refusal),
 }
 
-// How many pages and shapes a file has.
+// How many pages and shapes a file has, and the cursor after its first block, from which its pages are walked again.
 pub struct Totals {
     pub pages: usize,
     pub shapes: usize,
+    pub first: Cursor,
 }
 
-// The totals of a file whose frame is sound, or the refusal.
-pub enum Framed {
+// The totals of a file that is sound, in its frame or, by the full check, in all; or the refusal.
+pub enum Checked {
     Sound(Totals),
     Refused(Refusal),
 }
@@ -70,7 +71,7 @@ fn first_step(s: &[u8], b: Block) -> FirstRead
 }
 
 // The first block of a file, any bytes.
-pub fn first(s: &[u8]) -> FirstRead
+fn first(s: &[u8]) -> FirstRead
     ensures { λ r. ⌜ saidFirst r ≡ firstOf (now (s .entry)) ⌝ }
 {
     match block_at(s, 0) {
@@ -80,19 +81,20 @@ pub fn first(s: &[u8]) -> FirstRead
 }
 
 // The walk from a cursor to the end.
-fn walk_from(s: &[u8], from: Cursor) -> Framed
+fn walk_from(s: &[u8], from: Cursor) -> Checked
     requires { ⌜ (from .pages ≡ 0) × (from .shapes ≡ 0) ⌝ }
-    ensures { λ r. ⌜ saidFrame r ≡ on (walk 1025 (now (s .entry)) from) (λ ps. ok (pageTotals ps)) ⌝ }
+    ensures { λ r. ⌜ saidChecked r ≡ on (walk 1025 (now (s .entry)) from) (λ ps. ok (pageTotals from ps)) ⌝ }
 {
     let mut c = from;
     loop {
         if let Verdict::Refused(w) = block_rules(s, c) {
-            return Framed::Refused(w);
+            return Checked::Refused(w);
         }
         if at_end(s, c) {
-            return Framed::Sound(Totals {
+            return Checked::Sound(Totals {
                 pages: c.pages,
                 shapes: c.shapes,
+                first: from,
             });
         }
         let l = glance(s, c);
@@ -101,11 +103,11 @@ fn walk_from(s: &[u8], from: Cursor) -> Framed
 }
 
 // The frame of a file, any bytes.
-pub fn frame(s: &[u8]) -> Framed
-    ensures { λ r. ⌜ saidFrame r ≡ on (frameOf (now (s .entry))) (λ f. ok (totalsOf f)) ⌝ }
+pub fn frame(s: &[u8]) -> Checked
+    ensures { λ r. ⌜ saidChecked r ≡ on (frameOf (now (s .entry))) (λ f. ok (totalsOf f)) ⌝ }
 {
     match first(s) {
-        FirstRead::Refused(w) => Framed::Refused(w),
+        FirstRead::Refused(w) => Checked::Refused(w),
         FirstRead::After(c) => walk_from(s, c),
     }
 }

@@ -9,7 +9,7 @@ use answer::Filled;
 use answer::Refusal;
 use answer::table::MANY;
 use fetch::rows::rows;
-use frame::walk::Framed;
+use frame::walk::Checked;
 use frame::walk::frame;
 use libc::STDIN_FILENO;
 use libc::STDOUT_FILENO;
@@ -83,10 +83,10 @@ fn say_hits(hits: usize, shapes: usize) {
 // The last line: so many hits, of all shapes of a file.
 fn say_last(hits: usize, file: &[u8]) {
     match frame(file) {
-        Framed::Sound(t) => {
+        Checked::Sound(t) => {
             say_hits(hits, t.shapes);
         }
-        Framed::Refused(w) => {
+        Checked::Refused(w) => {
             say_refused(w);
         }
     }

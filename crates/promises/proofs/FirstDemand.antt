@@ -15,19 +15,17 @@ use Rattle.column.specs.Write.{writeOf}
 use Rattle.column.specs.Read.{readOf}
 use Rattle.query.specs.declared.ask.Ask.{Ask}
 use Rattle.shape.specs.Outline.{Shape}
-use Rattle.frame.specs.declared.walk.Framed.{Framed}
+use Rattle.frame.specs.declared.walk.Checked.{Checked}
 use Rattle.frame.specs.Frame.{frameOf, totalsOf}
-use Rattle.frame.specs.Said.{saidFrame}
-use Rattle.frame.proofs.Walks.{said-frame-one}
+use Rattle.frame.specs.Said.{saidChecked}
+use Rattle.frame.proofs.Walks.{said-checked-one}
 use Rattle.pageblock.specs.Body.{Handed}
 use Rattle.pageblock.specs.Page.{pageBlockOf}
 use Rattle.writer.specs.declared.Writer.{Writer}
 use Rattle.writer.specs.declared.Stepped.{Stepped}
 use Rattle.writer.specs.State.{Added, stateAfter, bufferAfter, Steps}
 use Rattle.writer.proofs.Determined as writer
-use Rattle.file.specs.declared.check.Checked.{Checked}
-use Rattle.file.specs.Check.{checkOf, saidCheck}
-use Rattle.file.proofs.Checks.{said-check-one}
+use Rattle.file.specs.Check.{checkOf}
 use Rattle.search.specs.declared.count.Counted.{Counted}
 use Rattle.search.specs.Search.{searchOf, countOf, saidCount}
 use Rattle.search.proofs.Services.{said-count-one}
@@ -58,11 +56,11 @@ pub block-determined : (i : Handed) (d : List ℕ) {r r′ : Filled} {e e′ : L
 block-determined i d = determined
 
 -- the frame, the full check, and the count
-pub frame-determined : (s : List ℕ) (r r′ : Framed) → saidFrame r ≡ on (frameOf s) (λ f. ok (totalsOf f)) → saidFrame r′ ≡ on (frameOf s) (λ f. ok (totalsOf f)) → r ≡ r′
-frame-determined s r r′ p q = said-frame-one r r′ (p ∙ sym q)
+pub frame-determined : (s : List ℕ) (r r′ : Checked) → saidChecked r ≡ on (frameOf s) (λ f. ok (totalsOf f)) → saidChecked r′ ≡ on (frameOf s) (λ f. ok (totalsOf f)) → r ≡ r′
+frame-determined s r r′ p q = said-checked-one r r′ (p ∙ sym q)
 
-pub check-determined : (s : List ℕ) (r r′ : Checked) → saidCheck r ≡ checkOf s → saidCheck r′ ≡ checkOf s → r ≡ r′
-check-determined s r r′ p q = said-check-one r r′ (p ∙ sym q)
+pub check-determined : (s : List ℕ) (r r′ : Checked) → saidChecked r ≡ checkOf s → saidChecked r′ ≡ checkOf s → r ≡ r′
+check-determined s r r′ p q = said-checked-one r r′ (p ∙ sym q)
 
 pub count-determined : (a : Ask) (s : List ℕ) (r r′ : Counted) → saidCount r ≡ countOf a s → saidCount r′ ≡ countOf a s → r ≡ r′
 count-determined a s r r′ p q = said-count-one r r′ (p ∙ sym q)

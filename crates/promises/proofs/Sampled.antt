@@ -21,7 +21,7 @@ use Rattle.shape.specs.Rules.{finiteRule, endsMeet, closedRing, ringsClosed, ri
 use Rattle.frame.specs.Layout.{each, layoutOf}
 use Rattle.frame.specs.Head as page
 use Rattle.frame.specs.Head.{countsOk, allZero, boxOk, sizedHead}
-use Rattle.frame.specs.Step.{firstStep, firstOf, pageStep, endStep, kindStep, stepOf}
+use Rattle.frame.specs.Step.{firstCursor, firstStep, firstOf, pageStep, endStep, kindStep, stepOf}
 use Rattle.frame.specs.Frame as frame
 use Rattle.frame.specs.Frame.{walk, frameOf}
 use Rattle.page.specs.Contents.{registersOf, typesOf, countsOf, lensOf, xPart, yPart, verticesOf, outlineRules, contentsOf}
@@ -33,7 +33,7 @@ use Rattle.search.specs.Search.{placesOf, hitsFrom, pageHits, metOf, metIn, hit
 use Rattle.promises.specs.Sample.{sample, Found}
 
 -- two pages, four shapes
-pub sample-sound : checkOf sample ≡ ok (record { pages = 2; shapes = 4 })
+pub sample-sound : checkOf sample ≡ ok (record { pages = 2; shapes = 4; first = firstCursor 1 })
 unfolding need on inPage rule number numberAt numbersAt presentAt blockAt unzigzag sizeAt valueAt after values saidBy endOf closed someOf decodeOf rank finite atMost below sameValue fourFinite inOrder goodForm sameBox lesser greater leastOf greatestOf boxOf allOf typeRow total fits lengthsFit rowAgrees shapeAgrees partsAgree partsHold partsRule ofBits toBits ofFields onGrid wholeOf turnOf clockwise zeroTurn outlinesOf partsOf registered finiteRule endsMeet closedRing ringsClosed ringRule onGridShape gridRule ringTurn turnNotZero firstClockwise ringsTurned turnsHold turnRule boxHolds boxRule each layoutOf countsOk boundsAt allZero boxOk sizedHead page.headOf firstStep firstOf pageStep endStep kindStep stepOf walk frameOf frame.shapesOf registersOf typesOf countsOf lensOf xPart yPart verticesOf outlineRules contentsOf pagesOf checkOf
 sample-sound = refl
 

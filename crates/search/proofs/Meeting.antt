@@ -12,12 +12,12 @@ use Rattle.le.specs.Number.{number}
 use Rattle.query.specs.declared.ask.Ask.{Ask}
 use Rattle.frame.specs.declared.cursor.Cursor.{Cursor}
 use Rattle.frame.specs.declared.cursor.PageAt.{PageAt}
-use Rattle.frame.specs.Step.{page, end, firstOf, stepOf}
-use Rattle.frame.specs.Frame.{Page, Frame, pageOf, frameOf}
-use Rattle.frame.proofs.Found.{first-is, Paged, page-is}
+use Rattle.frame.specs.Step.{page, end, stepOf}
+use Rattle.frame.specs.Frame.{Page, pageOf, frameOf}
+use Rattle.frame.proofs.Found.{Paged, page-is}
 use Rattle.frame.proofs.Walks.{pages-on, shapes-on, within-on}
-use Rattle.frame.specs.Ahead.{Ahead}
-use Rattle.frame.proofs.Ahead.{ahead-one, ahead-first, ahead-end, ahead-page, ahead-fewer}
+use Rattle.frame.specs.Ahead.{Ahead, Begun}
+use Rattle.frame.proofs.Ahead.{ahead-one, ahead-end, ahead-page, ahead-fewer}
 use Rattle.search.specs.declared.count.Counted.{Counted}
 use Rattle.search.specs.declared.count.Counted.the-variants.{Hits, Refused}
 use Rattle.search.specs.Ascending.{Ascending}
@@ -52,23 +52,19 @@ pub record Meeting (a : Ask) (s d₀ : List ℕ) (c : Cursor) (found : ℕ) (d :
   pub bits : 262144 ≤ 8 * length d₀ → number d₀ < 2 ^ 0 → number d ≡ number d₀ + bitsOf done
 
 -- nothing yet
-pub meeting-start : (a : Ask) (s d : List ℕ) (c : Cursor) (f : Frame) → frameOf s ≡ ok f → firstOf s ≡ ok c → Meeting a s d c 0 d
+pub meeting-start : (a : Ask) (s d : List ℕ) (c : Cursor) → Begun s c → Meeting a s d c 0 d
 unfolding bitsOf
-meeting-start a s d c f e q =
-    let k = first-is s c q in
-    let n : c .pages ≡ 0 = ap (λ (x : Cursor). x .pages) (k .after) in
-    let m : c .shapes ≡ 0 = ap (λ (x : Cursor). x .shapes) (k .after) in
-    record {
-      pages = f .pages;
-      done = [];
-      ahead = ahead-first s f c e q .1;
-      same = met-order a s ∙ on-value (frameOf s) _ f e ∙ rw (n, m) (met-alone (metOf a 0 0 (f .pages)));
-      count = refl;
-      few = omega arith;
-      long = refl;
-      low = λ _ l. rw m l;
-      bits = λ _ _. omega arith;
-    }
+meeting-start a s d c b = record {
+  pages = b .frame .pages;
+  done = [];
+  ahead = b .ahead;
+  same = met-order a s ∙ on-value (frameOf s) _ (b .frame) (b .framed) ∙ rw (b .no-page, b .no-shape) (met-alone (metOf a 0 0 (b .frame .pages)));
+  count = refl;
+  few = omega arith;
+  long = refl;
+  low = λ _ l. rw (b .no-shape) l;
+  bits = λ _ _. omega arith;
+}
 
 module _ (a : Ask) (s d₀ : List ℕ) (c : Cursor) (found : ℕ) (d : List ℕ) (w : Meeting a s d₀ c found d) where
   -- at the end all is done

@@ -17,7 +17,11 @@ use Rattle.query.specs.Ask.{opens}
 use Rattle.types.specs.Parts.{partsHold}
 use Rattle.shape.specs.Outline.{Outline, outlinesOf, registered}
 use Rattle.frame.specs.declared.head.Head.{Head}
-use Rattle.frame.specs.Frame.{Page}
+use Rattle.frame.specs.declared.cursor.Cursor.{Cursor}
+use Rattle.frame.specs.declared.cursor.PageAt.{PageAt}
+use Rattle.frame.specs.Step.{page, stepOf}
+use Rattle.frame.specs.Frame.{Page, pageOf}
+use Rattle.frame.proofs.Steps.{page-inj}
 use Rattle.page.specs.Contents.{registersOf, typesOf, countsOf, lensOf, contentsOf}
 use Rattle.page.specs.Loaded.{Loaded}
 use Rattle.page.proofs.Orders.{on-refused, on-value}
@@ -27,7 +31,7 @@ use Rattle.search.specs.declared.count.Counted.the-variants.{Hits, Refus
 use Rattle.search.specs.Ascending.{Ascending, none}
 use Rattle.search.specs.Search.{placesOf, hitsFrom, openedHits, pageHits, saidCount}
 use Rattle.search.specs.Flags.{bitsOf, Adds}
-use Rattle.search.specs.Met.{Meets}
+use Rattle.search.specs.Met.{Meets, PageMeets}
 use Rattle.search.proofs.Placing.{places-ascend}
 
 -- ---- what the walk says of an outcome
@@ -95,14 +99,11 @@ module _ (a : Ask) (k n : ℕ) (p : Page) where
           let g : n + length w ≡ n + h .g = ap (λ (j : ℕ). n + j) (outlines-long h (p .body) (c .xs) (c .ys) (c .parts)) in
           subst (Ascending (n + h .g) n) z (subst (λ (to : ℕ). Ascending to n (placesOf a n w)) g (places-ascend a n w))
 
--- ---- the contents of a page, as they are loaded
+-- ---- the contents of a page that was opened
 
-module _ (a : Ask) (k n : ℕ) (h : Head) (b : List ℕ) where
-  pub contents-refused : {d e : List ℕ} (w : Refusal) → judged (verdict.Refused w) ≡ passed (contentsOf h b)
-      → Meets (on (inPage k (contentsOf h b)) (λ here. ok (hitsFrom a n here))) n (n + h .g) (Refused (onPage k w)) d e
-  contents-refused w q =
-      meets-refused (onPage k w)
-      (on-refused (inPage k (contentsOf h b)) _ (onPage k w) (in-page-refused k w (refused-passed (contentsOf h b) w q)))
+pub opened-bad : (a : Ask) (k n to : ℕ) (p : Page) {d e : List ℕ} (w : Refusal) → inPage k (contentsOf (p .head) (p .body)) ≡ refused w
+    → Meets (openedHits a k n p) n to (Refused w) d e
+opened-bad a k n to p w q = meets-refused w (on-refused (inPage k (contentsOf (p .head) (p .body))) _ w q)
 
 module _ (h : Head) (b counts lens xs ys : List ℕ) (y : Loaded h b counts lens xs ys) (types : List ℕ) (t : types ≡ typesOf h b) where
   pub contents-met : (a : Ask) (k n : ℕ) {d e : List ℕ} (r : ℕ) → r ≡ length (placesOf a n (outlinesOf types counts lens xs ys))
@@ -119,3 +120,9 @@ module _ (h : Head) (b counts lens xs ys : List ℕ) (y : Loaded h b counts lens
 pub opened-meets : {d e : List ℕ} (a : Ask) (k n to : ℕ) (p : Page) (r : Counted) → opens a (p .head .v) (patterns (p .head .bounds)) ≡ true
     → Meets (openedHits a k n p) n to r d e → Meets (pageHits a k n p) n to r d e
 opened-meets {d = d} {e = e} a k n to p r t m = subst (λ (o : Out (List ℕ)). Meets o n to r d e) (sym (page-open a k n p t)) m
+
+-- and of the page that stands at a cursor, since there is only one
+pub meets-there : {d e : List ℕ} (a : Ask) (s : List ℕ) (c : Cursor) (r : Counted) (p : PageAt) → stepOf s c ≡ ok (page p)
+    → Meets (openedHits a (c .pages) (c .shapes) (pageOf s p)) (c .shapes) (c .shapes + p .head .g) r d e → PageMeets a s c r d e
+meets-there {d = d} {e = e} a s c r p f m q g =
+    subst (λ (x : PageAt). Meets (openedHits a (c .pages) (c .shapes) (pageOf s x)) (c .shapes) (c .shapes + x .head .g) r d e) (page-inj (ok-inj (sym f ∙ g))) m

@@ -1,24 +1,20 @@
 // The hits of a file: how many, and a flag for each as far as the flags reach.
 ghost use mathlib.Core.Path.{_≡_};
 ghost use mathlib.Core.Bool.{true};
-ghost use Rattle.answer.specs.Outcome.{ok};
 ghost use Rattle.query.specs.Ask.{sound};
-ghost use Rattle.frame.specs.Step.{firstOf};
-ghost use Rattle.frame.specs.Frame.{Frame, frameOf};
+ghost use Rattle.frame.specs.Ahead.{Begun};
 ghost use Rattle.search.specs.Search.{metIn, hitsOf};
 ghost use Rattle.search.specs.Met.{Meets};
 use crate::count::Counted;
 use crate::pages::walk_hits;
 use frame::cursor::Cursor;
-use frame::walk::FirstRead;
-use frame::walk::Framed;
-use frame::walk::first;
+use frame::walk::Checked;
 use frame::walk::frame;
 use query::ask::Ask;
 
 // The walk with its own scratch, which serves every page.
 fn own_hits(a: Ask, s: &[u8], from: Cursor, flags: &mut [u8]) -> Counted
-    requires { ⌜ (sound (a .query) ≡ true) × ((f : Frame) × (frameOf (now s) ≡ ok f)) × (firstOf (now s) ≡ ok from) ⌝ }
+    requires { ⌜ (sound (a .query) ≡ true) × Begun (now s) from ⌝ }
     ensures { λ r. ⌜ Meets (metIn a (now (s .entry))) 0 262144 r (now (flags .entry)) (now (flags .exit)) ⌝ }
 {
     let mut counts = [0u16; 256];
@@ -33,11 +29,8 @@ pub fn hits_of(a: Ask, s: &[u8], flags: &mut [u8]) -> Counted
     requires { ⌜ sound (a .query) ≡ true ⌝ }
     ensures { λ r. ⌜ Meets (hitsOf a (now (s .entry))) 0 262144 r (now (flags .entry)) (now (flags .exit)) ⌝ }
 {
-    if let Framed::Refused(w) = frame(s) {
-        return Counted::Refused(w);
-    }
-    match first(s) {
-        FirstRead::Refused(w) => Counted::Refused(w),
-        FirstRead::After(c) => own_hits(a, s, c, flags),
+    match frame(s) {
+        Checked::Refused(w) => Counted::Refused(w),
+        Checked::Sound(t) => own_hits(a, s, t.first, flags),
     }
 }

@@ -2,55 +2,25 @@
 ghost use mathlib.Core.Path.{_≡_};
 ghost use mathlib.Core.Bool.{true};
 ghost use mathlib.Core.List.{List};
-ghost use Prim.Native.Nat.{ℕ, _+_, _*_, _≤_};
-ghost use lib.ListN.{length};
-ghost use Rattle.answer.specs.Outcome.{ok, on, inPage};
+ghost use Rattle.answer.specs.Outcome.{ok};
 ghost use Rattle.query.specs.Ask.{sound};
-ghost use Rattle.frame.specs.Head.{headOf};
 ghost use Rattle.frame.specs.declared.cursor.PageAt.{PageAt};
-ghost use Rattle.frame.specs.Step.{page, firstOf, stepOf};
-ghost use Rattle.frame.specs.Frame.{Page, Frame, pageOf, frameOf};
-ghost use Rattle.frame.specs.Ahead.{Ahead};
-ghost use Rattle.page.specs.Contents.{contentsOf};
-ghost use Rattle.search.specs.Search.{hitsFrom, openedHits, metIn};
-ghost use Rattle.search.specs.Met.{Meets};
+ghost use Rattle.frame.specs.Step.{page, stepOf};
+ghost use Rattle.frame.specs.Frame.{Page};
+ghost use Rattle.frame.specs.Ahead.{Within, Ahead, Begun};
+ghost use Rattle.page.specs.Opened.{Scratch};
+ghost use Rattle.search.specs.Search.{metIn};
+ghost use Rattle.search.specs.Met.{Meets, PageMeets};
 ghost use Rattle.search.specs.Skipped.{Skips};
 use crate::count::Counted;
 use crate::hits::shapes_hit;
-use answer::Verdict;
 use frame::cursor::Cursor;
-use frame::head::Head;
 use frame::read::at_end;
 use frame::read::glance;
-use frame::read::page_at;
-use page::contents::load;
+use page::open::Opened;
+use page::open::open;
 use query::ask::Ask;
 use query::ask::opens;
-
-// The hits of the contents of page k, whose first shape has place n. The scratch has room for exactly as many part counts, part lengths and
-// vertices as the head says.
-fn contents_hit(
-    a: Ask,
-    k: usize,
-    n: usize,
-    b: &[u8],
-    h: Head,
-    counts: &mut [u16],
-    lens: &mut [u16],
-    xs: &mut [u64],
-    ys: &mut [u64],
-    flags: &mut [u8],
-) -> Counted
-    requires { ⌜ (sound (a .query) ≡ true) × (k ≤ 1024) × (n + h .g ≤ 262144) × ((e : ℕ) × (headOf e (now b) ≡ ok h)) × (length (now counts) ≡ h .g) × (length (now lens) ≡ h .p) × (length (now xs) ≡ h .v) × (length (now ys) ≡ h .v) ⌝ }
-    ensures { λ r. ⌜ Meets (on (inPage k (contentsOf h (now (b .entry)))) (λ here. ok (hitsFrom a n here))) n (n + h .g) r (now (flags .entry)) (now (flags .exit)) ⌝ }
-{
-    if let Verdict::Refused(w) = load(b, h, counts, lens, xs, ys) {
-        return Counted::Refused(w.on_page(k as u32));
-    }
-    let from = h.layout.types;
-    let to = from + h.g;
-    Counted::Hits(shapes_hit(a, n, &b[from..to], counts, lens, xs, ys, flags))
-}
 
 // The hits of the page at a cursor, which is opened. The scratch serves every page.
 fn page_hits(
@@ -63,27 +33,29 @@ fn page_hits(
     ys: &mut [u64],
     flags: &mut [u8],
 ) -> Counted
-    requires { ⌜ (sound (a .query) ≡ true) × (c .pages ≤ 1024) × (c .shapes ≤ 256 * c .pages) × ((p : PageAt) × (stepOf (now s) c ≡ ok (page p))) × (length (now counts) ≡ 256) × (length (now lens) ≡ 2048) × (length (now xs) ≡ 2048) × (length (now ys) ≡ 2048) ⌝ }
-    ensures { λ r. ⌜ ((p : PageAt) → stepOf (now (s .entry)) c ≡ ok (page p) → Meets (openedHits a (c .pages) (c .shapes) (pageOf (now (s .entry)) p)) (c .shapes) (c .shapes + p .head .g) r (now (flags .entry)) (now (flags .exit))) ⌝ }
+    requires { ⌜ (sound (a .query) ≡ true) × Within c × ((p : PageAt) × (stepOf (now s) c ≡ ok (page p))) × Scratch (now counts) (now lens) (now xs) (now ys) ⌝ }
+    ensures { λ r. ⌜ PageMeets a (now (s .entry)) c r (now (flags .entry)) (now (flags .exit)) ⌝ }
 {
-    let p = page_at(s, c);
-    let g = p.head.g;
-    let v = p.head.v;
-    let m = p.head.p;
-    let from = p.body;
-    let to = from + p.len;
-    contents_hit(
-        a,
-        c.pages,
-        c.shapes,
-        &s[from..to],
-        p.head,
-        &mut counts[..g],
-        &mut lens[..m],
-        &mut xs[..v],
-        &mut ys[..v],
-        flags,
-    )
+    match open(s, c, counts, lens, xs, ys) {
+        Opened::Refused(w) => Counted::Refused(w),
+        Opened::Page(p) => {
+            let g = p.head.g;
+            let m = p.head.p;
+            let v = p.head.v;
+            let from = p.body + p.head.layout.types;
+            let to = from + g;
+            Counted::Hits(shapes_hit(
+                a,
+                c.shapes,
+                &s[from..to],
+                &counts[..g],
+                &lens[..m],
+                &xs[..v],
+                &ys[..v],
+                flags,
+            ))
+        }
+    }
 }
 
 // The next page that the query meets, from a cursor on, or the end. The others are passed by at a glance.
@@ -113,7 +85,7 @@ pub(crate) fn walk_hits(
     ys: &mut [u64],
     flags: &mut [u8],
 ) -> Counted
-    requires { ⌜ (sound (a .query) ≡ true) × ((f : Frame) × (frameOf (now s) ≡ ok f)) × (firstOf (now s) ≡ ok from) × (length (now counts) ≡ 256) × (length (now lens) ≡ 2048) × (length (now xs) ≡ 2048) × (length (now ys) ≡ 2048) ⌝ }
+    requires { ⌜ (sound (a .query) ≡ true) × Begun (now s) from × Scratch (now counts) (now lens) (now xs) (now ys) ⌝ }
     ensures { λ r. ⌜ Meets (metIn a (now (s .entry))) 0 262144 r (now (flags .entry)) (now (flags .exit)) ⌝ }
 {
     let mut c = next_met(a, s, from);

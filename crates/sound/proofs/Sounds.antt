@@ -9,27 +9,28 @@ use Rattle.answer.specs.Table.{many}
 use Rattle.answer.specs.Refusal.{because}
 use Rattle.answer.proofs.Outcomes.{met, unmet}
 use Rattle.frame.specs.declared.walk.Totals.{Totals}
-use Rattle.file.specs.declared.check.Checked.{Checked}
-use Rattle.file.specs.declared.check.Checked.the-variants.{Sound, Refused}
-use Rattle.file.specs.Check.{checkOf, saidCheck}
+use Rattle.frame.specs.declared.walk.Checked.{Checked}
+use Rattle.frame.specs.declared.walk.Checked.the-variants.{Sound, Refused}
+use Rattle.frame.specs.Said.{saidChecked}
+use Rattle.file.specs.Check.{checkOf}
 use Rattle.text.specs.Lines.{Lined, refusedLine, soundLine}
 use Rattle.sound.specs.Sound.{judgedOf, lineOf, soundOf}
 
 -- over 40,960 bytes, and no more
-pub judged-many : (s : List ℕ) → 40960 < length s → saidCheck (Refused (because many)) ≡ judgedOf s
-unfolding judgedOf saidCheck
+pub judged-many : (s : List ℕ) → 40960 < length s → saidChecked (Refused (because many)) ≡ judgedOf s
+unfolding judgedOf saidChecked
 judged-many s h = sym (unmet (because many) (checkOf s) (lt-leb (length s) 40960 h))
 
-pub judged-check : (s : List ℕ) (r : Checked) → length s ≤ 40960 → saidCheck r ≡ checkOf s → saidCheck r ≡ judgedOf s
+pub judged-check : (s : List ℕ) (r : Checked) → length s ≤ 40960 → saidChecked r ≡ checkOf s → saidChecked r ≡ judgedOf s
 unfolding judgedOf
 judged-check s r h e = e ∙ sym (met (because many) (checkOf s) (le-leb (length s) 40960 h))
 
 -- the line of a sound file, and of a refused one
-module _ (s d : List ℕ) (says : Checked) (r : ℕ) (left : List ℕ) (e : saidCheck says ≡ judgedOf s) where
+module _ (s d : List ℕ) (says : Checked) (r : ℕ) (left : List ℕ) (e : saidChecked says ≡ judgedOf s) where
   pub line-sound : (t : Totals) → says ≡ Sound t → Lined (soundLine (t .pages) (t .shapes)) d r left → Lined (soundOf s) d r left
-  unfolding saidCheck lineOf soundOf
-  line-sound t f = subst (λ (l : List ℕ). Lined l d r left) (ap lineOf (sym (ap saidCheck f) ∙ e))
+  unfolding saidChecked lineOf soundOf
+  line-sound t f = subst (λ (l : List ℕ). Lined l d r left) (ap lineOf (sym (ap saidChecked f) ∙ e))
 
   pub line-refused : (w : Refusal) → says ≡ Refused w → Lined (refusedLine (w .number) (w .page)) d r left → Lined (soundOf s) d r left
-  unfolding saidCheck lineOf soundOf
-  line-refused w f = subst (λ (l : List ℕ). Lined l d r left) (ap lineOf (sym (ap saidCheck f) ∙ e))
+  unfolding saidChecked lineOf soundOf
+  line-refused w f = subst (λ (l : List ℕ). Lined l d r left) (ap lineOf (sym (ap saidChecked f) ∙ e))

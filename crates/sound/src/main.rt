@@ -1,12 +1,12 @@
 // The full check as a program: a file on standard input, and one line that says how many pages and shapes it has, or why it is refused.
 ghost use mathlib.Core.Path.{_≡_};
-ghost use Rattle.file.specs.Check.{saidCheck};
+ghost use Rattle.frame.specs.Said.{saidChecked};
 ghost use Rattle.text.specs.Lines.{Lined};
 ghost use Rattle.sound.specs.Sound.{judgedOf, soundOf};
 use answer::Refusal;
 use answer::table::MANY;
-use file::check::Checked;
 use file::check::check;
+use frame::walk::Checked;
 use libc::STDIN_FILENO;
 use libc::STDOUT_FILENO;
 use text::lines::put_refused;
@@ -14,7 +14,7 @@ use text::lines::put_sound;
 
 // 3 for over 40,960 bytes, else the full check.
 fn judged(input: &[u8]) -> Checked
-    ensures { λ r. ⌜ saidCheck r ≡ judgedOf (now (input .entry)) ⌝ }
+    ensures { λ r. ⌜ saidChecked r ≡ judgedOf (now (input .entry)) ⌝ }
 {
     if 40960 < input.len() {
         return Checked::Refused(Refusal::because(MANY));

@@ -5,9 +5,10 @@ use mathlib.Core.List.{List}
 use Rattle.answer.specs.Outcome.{refused, ok, on}
 use Rattle.answer.specs.declared.Refusal.{Refusal}
 use Rattle.frame.specs.declared.walk.Totals.{Totals}
-use Rattle.file.specs.declared.check.Checked.{Checked}
-use Rattle.file.specs.declared.check.Checked.the-variants.{Sound, Refused}
-use Rattle.file.specs.Check.{checkOf, saidCheck}
+use Rattle.frame.specs.declared.walk.Checked.{Checked}
+use Rattle.frame.specs.declared.walk.Checked.the-variants.{Sound, Refused}
+use Rattle.frame.specs.Said.{saidChecked}
+use Rattle.file.specs.Check.{checkOf}
 use Rattle.query.specs.declared.ask.Ask.{Ask}
 use Rattle.query.specs.declared.block.AskRead.{AskRead}
 use Rattle.query.specs.declared.block.AskRead.the-variants as read
@@ -22,13 +23,13 @@ pub refusal-is : (w : Refusal) → w .number * 2 ^ 32 + w .page ≡ wordOf (refu
 unfolding wordOf
 refusal-is w = refl
 
-module _ (s : List ℕ) (r : Checked) (f : saidCheck r ≡ checkOf s) where
+module _ (s : List ℕ) (r : Checked) (f : saidChecked r ≡ checkOf s) where
   pub word-sound : (t : Totals) → r ≡ Sound t → t .shapes ≡ wordOf (on (checkOf s) (λ t. ok (t .shapes)))
-  unfolding saidCheck on wordOf
+  unfolding saidChecked on wordOf
   word-sound t e = rw (← f, e)
 
   pub word-refused : (w : Refusal) (x : ℕ) → r ≡ Refused w → x ≡ wordOf (refused w) → x ≡ wordOf (on (checkOf s) (λ t. ok (t .shapes)))
-  unfolding saidCheck on
+  unfolding saidChecked on
   word-refused w x e q = q ∙ rw (← f, e)
 
 -- ---- the count of a query's block

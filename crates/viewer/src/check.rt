@@ -4,8 +4,8 @@ ghost use Rattle.answer.specs.Outcome.{ok, on};
 ghost use Rattle.file.specs.Check.{checkOf};
 ghost use Rattle.viewer.specs.Word.{wordOf};
 use crate::word::refusal_word;
-use file::check::Checked;
 use file::check::check;
+use frame::walk::Checked;
 
 // The number of shapes of a sound file; or the refusal: its page in bits 0 to 31, its number in bits 32 to 39.
 #[no_mangle]

@@ -1,7 +1,7 @@
 -- `fetch::fetch::fetch` seeks the place, and then opens its page. Assumes nothing.
 use Rattle.fetch.specs.Fetch.{roomsOf}
 use Rattle.fetch.proofs.Filling.{fetches-refused}
-use Rattle.fetch.proofs.Onwards.{sought-refused, sought-seat, seated-page}
+use Rattle.fetch.proofs.Onwards.{sought-refused, sought-seat}
 use Rattle.fetch.proofs.Opens.{fetch-refused, fetch-seat}
 use borrow.Author.Needs.{needs}
 use Rattle.fetch.proofs.fetch.fetch.Statement.{statement}
@@ -21,8 +21,7 @@ opened-requires c κs =
     let a = c .before .before .before .before .before .before .before .before .before .before .before .args in
     let t = c .before .before .before .before .t .given in
     let d = c .before .before .before .before .before .before .seat .ensures .seat (t .0 .0) (t .1) in
-    let k = seated-page (a .s .now) (a .place) (t .0 .0) d in
-    (d .onward .ahead .within .pages, d .within, k .stands .fits, (t .0 .0 .at .edition, k .headed))
+    (d .onward .ahead .within, d .found, d .within)
 
 returns : tie.Need-returns
 returns c =

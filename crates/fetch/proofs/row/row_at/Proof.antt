@@ -1,5 +1,5 @@
 -- `fetch::row::row_at` reads the row in the part of the file that is the page's body. Assumes nothing.
-use Rattle.file.proofs.Opening.{part-of}
+use Rattle.page.proofs.Opening.{part-of}
 use borrow.Author.Needs.{needs}
 use Rattle.fetch.proofs.row.row_at.Statement.{statement}
 use Rattle.fetch.proofs.row.row_at.Tie as tie

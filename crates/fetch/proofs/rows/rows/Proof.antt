@@ -2,9 +2,8 @@
 use mathlib.Core.Path.{sym, _∙_}
 use borrow.Author.Tests.{not-true, not-false}
 use lib.ListN.{length}
-use Rattle.frame.proofs.Steps.{first-said, first-refusal-said}
 use Rattle.frame.proofs.Walks.{sound-said, frame-refusal-said}
-use Rattle.frame.proofs.Ahead.{first-never}
+use Rattle.frame.proofs.Ahead.{begun-said}
 use Rattle.fetch.proofs.Onwards.{onward-first}
 use Rattle.fetch.proofs.Places.{rows-frame, rows-refused, no-rows, all-rows, room-registers, room-types, room-both, both-refused}
 use borrow.Author.Needs.{needs}
@@ -30,9 +29,9 @@ returns : tie.Need-returns
 returns c =
     let args = c .before .before .before .before .before .before .before .before .before .before .before .args in
     let frame = c .before .before .before .before .before .before .frame in
-    let t = c .before .before .before .before .t in
-    let f = sound-said (args .s .now) _ (frame .ensures) (t .given .0 .0) (t .given .1) in
-    rw (c .because .ensures) (both-refused _ (rows-refused (args .s .now) (args .places .now) (length (args .registers .now)) (length (args .types .now)) _ (no-rows (args .s .now) (args .places .now) (f .0) (t .given .0 .0) (f .1) (f .2) (sym (c .before .before .all-there .ensures) ∙ not-true _ (c .before .if1 .taken)))))
+    let t = c .before .before .before .before .t .given in
+    let f = sound-said (args .s .now) _ (frame .ensures) (t .0 .0) (t .1) in
+    rw (c .because .ensures) (both-refused _ (rows-refused (args .s .now) (args .places .now) (length (args .registers .now)) (length (args .types .now)) _ (no-rows (args .s .now) (args .places .now) (f .0) (t .0 .0) (f .1) (f .2) (sym (c .before .before .all-there .ensures) ∙ not-true _ (c .before .if1 .taken)))))
 
 because-requires-2 : tie.Need-because-requires-2
 because-requires-2 c κs = search needs
@@ -41,9 +40,9 @@ returns-2 : tie.Need-returns-2
 returns-2 c =
     let args = c .before .before .before .before .before .before .before .before .before .before .before .before .args in
     let frame = c .before .before .before .before .before .before .before .frame in
-    let t = c .before .before .before .before .before .t in
-    let f = sound-said (args .s .now) _ (frame .ensures) (t .given .0 .0) (t .given .1) in
-    let r = all-rows (args .s .now) (args .places .now) (f .0) (t .given .0 .0) (f .1) (f .2) (sym (c .before .before .before .all-there .ensures) ∙ not-false _ (c .before .before .if1 .left)) in
+    let t = c .before .before .before .before .before .t .given in
+    let f = sound-said (args .s .now) _ (frame .ensures) (t .0 .0) (t .1) in
+    let r = all-rows (args .s .now) (args .places .now) (f .0) (t .0 .0) (f .1) (f .2) (sym (c .before .before .before .all-there .ensures) ∙ not-false _ (c .before .before .if1 .left)) in
     rw (c .because2 .ensures) (both-refused _ (room-registers (args .s .now) (args .places .now) (length (args .registers .now)) (length (args .types .now)) (r .0) (r .1) (c .before .if2 .taken)))
 
 because-requires-3 : tie.Need-because-requires-3
@@ -53,36 +52,20 @@ returns-3 : tie.Need-returns-3
 returns-3 c =
     let args = c .before .before .before .before .before .before .before .before .before .before .before .before .before .args in
     let frame = c .before .before .before .before .before .before .before .before .frame in
-    let t = c .before .before .before .before .before .before .t in
-    let all-there = c .before .before .before .before .all-there in
-    let f = sound-said (args .s .now) _ (frame .ensures) (t .given .0 .0) (t .given .1) in
-    let r = all-rows (args .s .now) (args .places .now) (f .0) (t .given .0 .0) (f .1) (f .2) (sym (all-there .ensures) ∙ not-false _ (c .before .before .before .if1 .left)) in
+    let t = c .before .before .before .before .before .before .t .given in
+    let f = sound-said (args .s .now) _ (frame .ensures) (t .0 .0) (t .1) in
+    let r = all-rows (args .s .now) (args .places .now) (f .0) (t .0 .0) (f .1) (f .2) (sym (c .before .before .before .before .all-there .ensures) ∙ not-false _ (c .before .before .before .if1 .left)) in
     rw (c .because3 .ensures) (both-refused _ (room-types (args .s .now) (args .places .now) (length (args .registers .now)) (length (args .types .now)) (r .0) (r .1) (c .before .before .if2 .left) (c .before .if3 .taken)))
-
-first-requires : tie.Need-first-requires
-first-requires c κs = search needs
-
-enum-known-w-2 : tie.Need-enum-known-w-2
-enum-known-w-2 c = search needs
-
-enum-known-c : tie.Need-enum-known-c
-enum-known-c c = search needs
 
 put-rows-requires : tie.Need-put-rows-requires
 put-rows-requires c κs =
-    let args = c .before .before .before .before .before .before .before .before .before .before .before .before .before .before .before .before .before .before .args in
-    let frame = c .before .before .before .before .before .before .before .before .before .before .before .before .before .frame in
-    let t = c .before .before .before .before .before .before .before .before .before .before .before .t in
-    let all-there = c .before .before .before .before .before .before .before .before .before .all-there in
-    let if1 = c .before .before .before .before .before .before .before .before .if1 in
-    let if2 = c .before .before .before .before .before .before .before .if2 in
-    let if3 = c .before .before .before .before .before .before .if3 in
-    let first = c .before .before .before .before .before .first in
-    let f = sound-said (args .s .now) _ (frame .ensures) (t .given .0 .0) (t .given .1) in
-    let r = all-rows (args .s .now) (args .places .now) (f .0) (t .given .0 .0) (f .1) (f .2) (sym (all-there .ensures) ∙ not-false _ (if1 .left)) in
-    let k = c .before .before .before .c .given in
-    let o = onward-first (args .s .now) (f .0) (k .0 .0) (f .1) (first-said (args .s .now) _ (first .ensures) (k .0 .0) (k .1)) in
-    (o .0, o .1, (r .0, r .1), if2 .left, if3 .left)
+    let args = c .before .before .before .before .before .before .before .before .before .before .before .before .before .before .args in
+    let frame = c .before .before .before .before .before .before .before .before .before .frame in
+    let t = c .before .before .before .before .before .before .before .t .given in
+    let f = sound-said (args .s .now) _ (frame .ensures) (t .0 .0) (t .1) in
+    let r = all-rows (args .s .now) (args .places .now) (f .0) (t .0 .0) (f .1) (f .2) (sym (c .before .before .before .before .before .all-there .ensures) ∙ not-false _ (c .before .before .before .before .if1 .left)) in
+    let b = begun-said (args .s .now) _ (frame .ensures) (t .0 .0) (t .1) in
+    (onward-first _ _ b, b .no-shape, (r .0, r .1), c .before .before .before .if2 .left, c .before .before .if3 .left)
 
 returns-4 : tie.Need-returns-4
 returns-4 c =
@@ -90,34 +73,20 @@ returns-4 c =
     let w = c .before .w .given in
     both-refused (w .0 .0) (rows-refused (args .s .now) (args .places .now) (length (args .registers .now)) (length (args .types .now)) (w .0 .0) (rows-frame (args .s .now) (args .places .now) (w .0 .0) (frame-refusal-said (args .s .now) _ (c .before .before .before .frame .ensures) (w .0 .0) (w .1))))
 
-returns-5 : tie.Need-returns-5
-returns-5 c =
-    let args = c .before .before .before .before .before .before .before .before .before .before .before .before .before .before .before .before .args in
-    let frame = c .before .before .before .before .before .before .before .before .before .before .before .frame in
-    let t = c .before .before .before .before .before .before .before .before .before .t in
-    let f = sound-said (args .s .now) _ (frame .ensures) (t .given .0 .0) (t .given .1) in
-    let w = c .before .w2 .given in
-    absurd (first-never (args .s .now) (f .0) (w .0 .0) (f .1) (first-refusal-said (args .s .now) _ (c .before .before .before .first .ensures) (w .0 .0) (w .1)))
-
 same-length : tie.Need-same-length
 same-length c = search needs
 
 same-length-2 : tie.Need-same-length-2
 same-length-2 c = search needs
 
-returns-6 : tie.Need-returns-6
-returns-6 c =
-    let args = c .before .before .before .before .before .before .before .before .before .before .before .before .before .before .before .before .before .before .before .before .before .before .before .args in
-    let frame = c .before .before .before .before .before .before .before .before .before .before .before .before .before .before .before .before .before .before .frame in
-    let t = c .before .before .before .before .before .before .before .before .before .before .before .before .before .before .before .before .t in
-    let all-there = c .before .before .before .before .before .before .before .before .before .before .before .before .before .before .all-there in
-    let if1 = c .before .before .before .before .before .before .before .before .before .before .before .before .before .if1 in
-    let if2 = c .before .before .before .before .before .before .before .before .before .before .before .before .if2 in
-    let if3 = c .before .before .before .before .before .before .before .before .before .before .before .if3 in
-    let put-rows = c .before .before .before .before .put-rows in
-    let f = sound-said (args .s .now) _ (frame .ensures) (t .given .0 .0) (t .given .1) in
-    let r = all-rows (args .s .now) (args .places .now) (f .0) (t .given .0 .0) (f .1) (f .2) (sym (all-there .ensures) ∙ not-false _ (if1 .left)) in
-    rw (room-both (args .s .now) (args .places .now) (length (args .registers .now)) (length (args .types .now)) (r .0) (r .1) (if2 .left) (if3 .left)) (put-rows .ensures)
+returns-5 : tie.Need-returns-5
+returns-5 c =
+    let args = c .before .before .before .before .before .before .before .before .before .before .before .before .before .before .before .before .before .before .before .args in
+    let frame = c .before .before .before .before .before .before .before .before .before .before .before .before .before .before .frame in
+    let t = c .before .before .before .before .before .before .before .before .before .before .before .before .t .given in
+    let f = sound-said (args .s .now) _ (frame .ensures) (t .0 .0) (t .1) in
+    let r = all-rows (args .s .now) (args .places .now) (f .0) (t .0 .0) (f .1) (f .2) (sym (c .before .before .before .before .before .before .before .before .before .before .all-there .ensures) ∙ not-false _ (c .before .before .before .before .before .before .before .before .before .if1 .left)) in
+    rw (room-both (args .s .now) (args .places .now) (length (args .registers .now)) (length (args .types .now)) (r .0) (r .1) (c .before .before .before .before .before .before .before .before .if2 .left) (c .before .before .before .before .before .before .before .if3 .left)) (c .before .before .before .before .put-rows .ensures)
 
 pub rows-spec : {M : Type 1} → statement M
 rows-spec =
@@ -133,12 +102,8 @@ rows-spec =
     returns-2
     because-requires-3
     returns-3
-    first-requires
-    enum-known-w-2
-    enum-known-c
     put-rows-requires
     returns-4
-    returns-5
     same-length
     same-length-2
-    returns-6)
+    returns-5)

@@ -1,5 +1,6 @@
 -- `file::check::check` is the full check: the frame, then the contents. A law for each return. Assumes nothing.
 use Rattle.frame.proofs.Walks.{sound-said, frame-refusal-said}
+use Rattle.frame.proofs.Ahead.{begun-said}
 use Rattle.file.proofs.Checks.{check-frame, check-contents, check-sound}
 use borrow.Author.Needs.{needs}
 use Rattle.file.proofs.check.check.Statement.{statement}
@@ -15,7 +16,7 @@ enum-known-t : tie.Need-enum-known-t
 enum-known-t c = search needs
 
 contents-hold-requires : tie.Need-contents-hold-requires
-contents-hold-requires c κs = let f = sound-said _ _ (c .before .before .before .frame .ensures) _ (c .before .t .given .1) in (f .0, f .1)
+contents-hold-requires c κs = begun-said _ _ (c .before .before .before .frame .ensures) _ (c .before .t .given .1)
 
 enum-told : tie.Need-enum-told
 enum-told c = search needs

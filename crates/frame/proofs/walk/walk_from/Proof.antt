@@ -14,10 +14,10 @@ use Rattle.frame.proofs.walk.walk_from.Statement.{statement}
 use Rattle.frame.proofs.walk.walk_from.Tie as tie
 
 abbrev Inv-loop : tie.InvT-loop
-Inv-loop s c₀ c = Walking s c₀ c
+Inv-loop s from c₀ c = Walking s from c
 
 abbrev μ-loop : tie.MeasureT-loop
-μ-loop s c₀ c = 1025 - c .pages
+μ-loop s from c₀ c = 1025 - c .pages
 
 loop-holds : tie.Need-loop-holds Inv-loop μ-loop
 loop-holds c = walking-start _ _ (c .before .pre .0) (c .before .pre .1)

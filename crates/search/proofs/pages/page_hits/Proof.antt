@@ -1,115 +1,128 @@
--- `search::pages::page_hits` opens the page at the cursor into the start of each scratch. Assumes nothing.
-use mathlib.Core.Path.{_≡_, sym, _∙_}
+-- `search::pages::page_hits` opens the page at the cursor and asks its shapes, which stand in the start of each scratch. Assumes nothing.
+use mathlib.Core.Path.{refl, _∙_}
 use native.Mathlib.Nat.{le-trans}
 use native.Mathlib.Omega.{arith}
-use Rattle.answer.proofs.Outcomes.{ok-inj}
-use Rattle.frame.proofs.Steps.{page-inj}
+use Rattle.frame.specs.Step.{part}
+use Rattle.frame.specs.Frame.{pageOf}
 use Rattle.frame.proofs.Found.{page-is}
-use Rattle.frame.proofs.Reading.{page-few}
-use Rattle.file.proofs.Opening.{limits-of, part-of, first-of}
+use Rattle.page.proofs.Opening.{limits-of, first-of, types-end, types-in, opened-refused}
+use Rattle.page.proofs.Contained.{loaded-ready}
+use Rattle.search.proofs.Opened.{opened-bad, contents-met, meets-there}
 use borrow.Author.Needs.{needs}
 use Rattle.search.proofs.pages.page_hits.Statement.{statement}
 use Rattle.search.proofs.pages.page_hits.Tie as tie
 
-page-at-requires : tie.Need-page-at-requires
-page-at-requires c κs = search needs
+open-requires : tie.Need-open-requires
+open-requires c κs = search needs
+
+enum-known-w : tie.Need-enum-known-w
+enum-known-w c = search needs
+
+enum-known-p : tie.Need-enum-known-p
+enum-known-p c = search needs
+
+add-from : tie.Need-add-from
+add-from c =
+    let st = c .before .before .before .before .before .before .before .before .before .before .before .before .before .before .before .before .before .before .before .before .before .before .before in
+    let p = c .before .before .p .given in
+    let o = c .before .before .before .before .before .before .before .before .before .before .before .before .«open» .ensures .lists (p .0 .0) (p .1) in
+    omega (arith, types-end (st .args .s .now) (st .args .c) (p .0 .0) (o .0), st .good .1 .0)
 
 add-to : tie.Need-add-to
-add-to c = omega (arith, page-is _ _ _ (c .before .page-at .ensures) .stands .fits, c .before .before .before .before .before .before .before .before .good .1 .0)
+add-to c =
+    let st = c .before .before .before .before .before .before .before .before .before .before .before .before .before .before .before .before .before .before .before .before .before .before .before in
+    let p = c .before .before .p .given in
+    let o = c .before .before .before .before .before .before .before .before .before .before .before .before .«open» .ensures .lists (p .0 .0) (p .1) in
+    omega (arith, types-end (st .args .s .now) (st .args .c) (p .0 .0) (o .0), st .good .1 .0)
 
-sub-contents-hit : tie.Need-sub-contents-hit
-sub-contents-hit c = search needs
+sub-shapes-hit : tie.Need-sub-shapes-hit
+sub-shapes-hit c = search needs
 
-part-contents-hit-start : tie.Need-part-contents-hit-start
-part-contents-hit-start c = search needs
+part-shapes-hit-start : tie.Need-part-shapes-hit-start
+part-shapes-hit-start c = search needs
 
-part-contents-hit-end : tie.Need-part-contents-hit-end
-part-contents-hit-end c = page-is _ _ _ (c .before .page-at .ensures) .stands .fits
+part-shapes-hit-end : tie.Need-part-shapes-hit-end
+part-shapes-hit-end c =
+    let st = c .before .before .before .before .before .before .before .before .before .before .before .before .before .before .before .before .before .before .before .before .before .before .before in
+    let p = c .before .before .p .given in
+    let o = c .before .before .before .before .before .before .before .before .before .before .before .before .«open» .ensures .lists (p .0 .0) (p .1) in
+    types-end (st .args .s .now) (st .args .c) (p .0 .0) (o .0)
 
-slice-relend-prefix-contents-hit : tie.Need-slice-relend-prefix-contents-hit
-slice-relend-prefix-contents-hit c =
-    let p = c .before .before .page-at .result in
-    let m = limits-of (c .before .before .before .before .before .before .before .before .before .args .c .edition) _ (p .head) (page-is _ _ p (c .before .before .page-at .ensures) .headed) in
-    omega (arith, m .few, c .before .before .before .before .before .before .before .before .before .pre .4)
+slice-reshare-prefix-shapes-hit : tie.Need-slice-reshare-prefix-shapes-hit
+slice-reshare-prefix-shapes-hit c =
+    let st = c .before .before .before .before .before .before .before .before .before .before .before .before .before .before .before .before .before .before .before .before .before .before .before .before in
+    let p = c .before .before .before .p .given in
+    let o = c .before .before .before .before .before .before .before .before .before .before .before .before .before .«open» .ensures .lists (p .0 .0) (p .1) in
+    let m = limits-of (st .args .s .now) (st .args .c) (p .0 .0) (o .0) in
+    omega (arith, m .few, c .before .before .before .before .before .before .before .before .before .before .before .before .counts .given, st .pre .3 .for-counts)
 
-slice-aggregate-contents-hit : tie.Need-slice-aggregate-contents-hit
-slice-aggregate-contents-hit c =
-    let args = c .before .before .before .before .before .before .before .before .before .before .args in
-    let pre = c .before .before .before .before .before .before .before .before .before .before .pre in
-    let p = c .before .before .before .page-at .result in
-    let m = limits-of (args .c .edition) _ (p .head) (page-is _ _ p (c .before .before .before .page-at .ensures) .headed) in
-    first-of (p .head .g) 256 (args .counts .now) (pre .4) (m .few)
+slice-aggregate-shapes-hit : tie.Need-slice-aggregate-shapes-hit
+slice-aggregate-shapes-hit c =
+    let st = c .before .before .before .before .before .before .before .before .before .before .before .before .before .before .before .before .before .before .before .before .before .before .before .before .before in
+    let p = c .before .before .before .before .p .given in
+    let o = c .before .before .before .before .before .before .before .before .before .before .before .before .before .before .«open» .ensures .lists (p .0 .0) (p .1) in
+    let m = limits-of (st .args .s .now) (st .args .c) (p .0 .0) (o .0) in
+    first-of (p .0 .0 .head .g) 256 _ (c .before .before .before .before .before .before .before .before .before .before .before .before .before .counts .given ∙ st .pre .3 .for-counts) (m .few)
 
-slice-relend-prefix-contents-hit-2 : tie.Need-slice-relend-prefix-contents-hit-2
-slice-relend-prefix-contents-hit-2 c =
-    let args = c .before .before .before .before .before .before .before .before .before .before .args in
-    let pre = c .before .before .before .before .before .before .before .before .before .before .pre in
-    let p = c .before .before .before .page-at .result in
-    let m = limits-of (args .c .edition) _ (p .head) (page-is _ _ p (c .before .before .before .page-at .ensures) .headed) in
-    omega (arith, le-trans (m .parts) (m .vertices), pre .5)
+slice-reshare-prefix-shapes-hit-2 : tie.Need-slice-reshare-prefix-shapes-hit-2
+slice-reshare-prefix-shapes-hit-2 c =
+    let st = c .before .before .before .before .before .before .before .before .before .before .before .before .before .before .before .before .before .before .before .before .before .before .before .before .before in
+    let p = c .before .before .before .before .p .given in
+    let o = c .before .before .before .before .before .before .before .before .before .before .before .before .before .before .«open» .ensures .lists (p .0 .0) (p .1) in
+    let m = limits-of (st .args .s .now) (st .args .c) (p .0 .0) (o .0) in
+    omega (arith, le-trans (m .parts) (m .vertices), c .before .before .before .before .before .before .before .before .before .before .before .lens .given, st .pre .3 .for-lens)
 
-slice-aggregate-contents-hit-2 : tie.Need-slice-aggregate-contents-hit-2
-slice-aggregate-contents-hit-2 c =
-    let args = c .before .before .before .before .before .before .before .before .before .before .before .args in
-    let pre = c .before .before .before .before .before .before .before .before .before .before .before .pre in
-    let page-at = c .before .before .before .before .page-at in
-    let p = page-at .result in
-    let m = limits-of (args .c .edition) _ (p .head) (page-is _ _ p (page-at .ensures) .headed) in
-    first-of (p .head .p) 2048 (args .lens .now) (pre .5) (le-trans (m .parts) (m .vertices))
+slice-aggregate-shapes-hit-2 : tie.Need-slice-aggregate-shapes-hit-2
+slice-aggregate-shapes-hit-2 c =
+    let st = c .before .before .before .before .before .before .before .before .before .before .before .before .before .before .before .before .before .before .before .before .before .before .before .before .before .before in
+    let p = c .before .before .before .before .before .p .given in
+    let o = c .before .before .before .before .before .before .before .before .before .before .before .before .before .before .before .«open» .ensures .lists (p .0 .0) (p .1) in
+    let m = limits-of (st .args .s .now) (st .args .c) (p .0 .0) (o .0) in
+    first-of (p .0 .0 .head .p) 2048 _ (c .before .before .before .before .before .before .before .before .before .before .before .before .lens .given ∙ st .pre .3 .for-lens) (le-trans (m .parts) (m .vertices))
 
-slice-relend-prefix-contents-hit-3 : tie.Need-slice-relend-prefix-contents-hit-3
-slice-relend-prefix-contents-hit-3 c =
-    let args = c .before .before .before .before .before .before .before .before .before .before .before .args in
-    let pre = c .before .before .before .before .before .before .before .before .before .before .before .pre in
-    let page-at = c .before .before .before .before .page-at in
-    let p = page-at .result in
-    let m = limits-of (args .c .edition) _ (p .head) (page-is _ _ p (page-at .ensures) .headed) in
-    omega (arith, m .vertices, pre .6)
+slice-reshare-prefix-shapes-hit-3 : tie.Need-slice-reshare-prefix-shapes-hit-3
+slice-reshare-prefix-shapes-hit-3 c =
+    let st = c .before .before .before .before .before .before .before .before .before .before .before .before .before .before .before .before .before .before .before .before .before .before .before .before .before .before in
+    let p = c .before .before .before .before .before .p .given in
+    let o = c .before .before .before .before .before .before .before .before .before .before .before .before .before .before .before .«open» .ensures .lists (p .0 .0) (p .1) in
+    let m = limits-of (st .args .s .now) (st .args .c) (p .0 .0) (o .0) in
+    omega (arith, m .vertices, c .before .before .before .before .before .before .before .before .before .before .xs .given, st .pre .3 .for-xs)
 
-slice-aggregate-contents-hit-3 : tie.Need-slice-aggregate-contents-hit-3
-slice-aggregate-contents-hit-3 c =
-    let args = c .before .before .before .before .before .before .before .before .before .before .before .before .args in
-    let pre = c .before .before .before .before .before .before .before .before .before .before .before .before .pre in
-    let page-at = c .before .before .before .before .before .page-at in
-    let p = page-at .result in
-    let m = limits-of (args .c .edition) _ (p .head) (page-is _ _ p (page-at .ensures) .headed) in
-    first-of (p .head .v) 2048 (args .xs .now) (pre .6) (m .vertices)
+slice-aggregate-shapes-hit-3 : tie.Need-slice-aggregate-shapes-hit-3
+slice-aggregate-shapes-hit-3 c =
+    let st = c .before .before .before .before .before .before .before .before .before .before .before .before .before .before .before .before .before .before .before .before .before .before .before .before .before .before .before in
+    let p = c .before .before .before .before .before .before .p .given in
+    let o = c .before .before .before .before .before .before .before .before .before .before .before .before .before .before .before .before .«open» .ensures .lists (p .0 .0) (p .1) in
+    let m = limits-of (st .args .s .now) (st .args .c) (p .0 .0) (o .0) in
+    first-of (p .0 .0 .head .v) 2048 _ (c .before .before .before .before .before .before .before .before .before .before .before .xs .given ∙ st .pre .3 .for-xs) (m .vertices)
 
-slice-relend-prefix-contents-hit-4 : tie.Need-slice-relend-prefix-contents-hit-4
-slice-relend-prefix-contents-hit-4 c =
-    let args = c .before .before .before .before .before .before .before .before .before .before .before .before .args in
-    let pre = c .before .before .before .before .before .before .before .before .before .before .before .before .pre in
-    let page-at = c .before .before .before .before .before .page-at in
-    let p = page-at .result in
-    let m = limits-of (args .c .edition) _ (p .head) (page-is _ _ p (page-at .ensures) .headed) in
-    omega (arith, m .vertices, pre .7)
+slice-reshare-prefix-shapes-hit-4 : tie.Need-slice-reshare-prefix-shapes-hit-4
+slice-reshare-prefix-shapes-hit-4 c =
+    let st = c .before .before .before .before .before .before .before .before .before .before .before .before .before .before .before .before .before .before .before .before .before .before .before .before .before .before .before in
+    let p = c .before .before .before .before .before .before .p .given in
+    let o = c .before .before .before .before .before .before .before .before .before .before .before .before .before .before .before .before .«open» .ensures .lists (p .0 .0) (p .1) in
+    let m = limits-of (st .args .s .now) (st .args .c) (p .0 .0) (o .0) in
+    omega (arith, m .vertices, c .before .before .before .before .before .before .before .before .before .ys .given, st .pre .3 .for-ys)
 
-slice-aggregate-contents-hit-4 : tie.Need-slice-aggregate-contents-hit-4
-slice-aggregate-contents-hit-4 c =
-    let args = c .before .before .before .before .before .before .before .before .before .before .before .before .before .args in
-    let pre = c .before .before .before .before .before .before .before .before .before .before .before .before .before .pre in
-    let page-at = c .before .before .before .before .before .before .page-at in
-    let p = page-at .result in
-    let m = limits-of (args .c .edition) _ (p .head) (page-is _ _ p (page-at .ensures) .headed) in
-    first-of (p .head .v) 2048 (args .ys .now) (pre .7) (m .vertices)
+slice-aggregate-shapes-hit-4 : tie.Need-slice-aggregate-shapes-hit-4
+slice-aggregate-shapes-hit-4 c =
+    let st = c .before .before .before .before .before .before .before .before .before .before .before .before .before .before .before .before .before .before .before .before .before .before .before .before .before .before .before .before in
+    let p = c .before .before .before .before .before .before .before .p .given in
+    let o = c .before .before .before .before .before .before .before .before .before .before .before .before .before .before .before .before .before .«open» .ensures .lists (p .0 .0) (p .1) in
+    let m = limits-of (st .args .s .now) (st .args .c) (p .0 .0) (o .0) in
+    first-of (p .0 .0 .head .v) 2048 _ (c .before .before .before .before .before .before .before .before .before .before .ys .given ∙ st .pre .3 .for-ys) (m .vertices)
 
-contents-hit-requires : tie.Need-contents-hit-requires
-contents-hit-requires c κs =
-    let args = c .before .before .before .before .before .before .before .before .before .before .before .before .before .before .args in
-    let page-at = c .before .before .before .before .before .before .before .page-at in
-    let st = c .before .before .before .before .before .before .before .before .before .before .before .before .before .before in
-    let k = page-is _ _ _ (page-at .ensures) in
-    let p = page-at .result in
-    let m = limits-of (args .c .edition) _ (p .head) (page-is _ _ p (page-at .ensures) .headed) in (
-      st .pre .0,
-      st .pre .1,
-      omega (arith, page-few _ _ _ (page-at .ensures), st .pre .2),
-      (st .args .c .edition, rw (part-of (st .args .s .now) (p .body) (p .len)) (k .headed)),
-      sym (first-of (p .head .g) 256 (st .args .counts .now) (st .pre .4) (m .few)),
-      sym (first-of (p .head .p) 2048 (st .args .lens .now) (st .pre .5) (le-trans (m .parts) (m .vertices))),
-      sym (first-of (p .head .v) 2048 (st .args .xs .now) (st .pre .6) (m .vertices)),
-      sym (first-of (p .head .v) 2048 (st .args .ys .now) (st .pre .7) (m .vertices)),
-    )
+shapes-hit-requires : tie.Need-shapes-hit-requires
+shapes-hit-requires c κs =
+    let st = c .before .before .before .before .before .before .before .before .before .before .before .before .before .before .before .before .before .before .before .before .before .before .before .before .before .before .before .before .before in
+    let p = c .before .before .before .before .before .before .before .before .p .given in
+    let o = c .before .before .before .before .before .before .before .before .before .before .before .before .before .before .before .before .before .before .«open» .ensures .lists (p .0 .0) (p .1) in
+    let m = limits-of (st .args .s .now) (st .args .c) (p .0 .0) (o .0) in
+    let h = p .0 .0 .head in
+    let t = types-in (st .args .s .now) (st .args .c) (p .0 .0) (o .0) _ _ refl refl in
+    let y = loaded-ready h (part (st .args .s .now) (p .0 .0 .body) (p .0 .0 .len)) _ _ _ _ (o .1) _ t in
+    let k = page-is (st .args .s .now) (st .args .c) (p .0 .0) (o .0) in
+    (st .pre .0, omega (arith, st .pre .1 .shapes, k .few, m .few, y .0), y .1, y .2, o .1 .finite-x, o .1 .finite-y)
 
 same-length : tie.Need-same-length
 same-length c = search needs
@@ -123,39 +136,67 @@ same-length-3 c = search needs
 same-length-4 : tie.Need-same-length-4
 same-length-4 c = search needs
 
-same-length-5 : tie.Need-same-length-5
-same-length-5 c = search needs
-
 returns : tie.Need-returns
 returns c =
-    let page-at = c .before .before .before .before .before .before .before .before .before .before .before .before .before .before .before .before .before .before .page-at in
-    let contents-hit = c .before .before .before .before .before .before .before .before .before .before .contents-hit in
-    λ p e.
-    let st = c .before .before .before .before .before .before .before .before .before .before .before .before .before .before .before .before .before .before .before .before .before .before .before .before .before in
-    let same : p ≡ page-at .result = page-inj (ok-inj (sym e ∙ page-at .ensures)) in
-    rw (same, ← part-of (st .args .s .now) (page-at .result .body) (page-at .result .len)) (contents-hit .ensures)
+    let st = c .before .before .before .before .before .before .before .before .before .before .before .before .before .before .before .before .before .before .before .before .before .before in
+    let open′ = c .before .before .before .before .before .before .before .before .before .before .before .«open» in
+    let w = c .before .w .given in
+    λ p e. opened-bad (st .args .a) (st .args .c .pages) (st .args .c .shapes) _ (pageOf (st .args .s .now) p) (w .0 .0) (opened-refused _ _ _ _ _ _ _ (open′ .ensures) p e (w .0 .0) (w .1))
+
+same-length-5 : tie.Need-same-length-5
+same-length-5 c = c .before .before .before .before .before .before .before .before .before .before .before .before .before .before .before .before .before .before .before .before .counts .given
+
+same-length-6 : tie.Need-same-length-6
+same-length-6 c = search needs
+
+same-length-7 : tie.Need-same-length-7
+same-length-7 c = search needs
+
+same-length-8 : tie.Need-same-length-8
+same-length-8 c = search needs
+
+same-length-9 : tie.Need-same-length-9
+same-length-9 c = search needs
+
+returns-2 : tie.Need-returns-2
+returns-2 c =
+    let st = c .before .before .before .before .before .before .before .before .before .before .before .before .before .before .before .before .before .before .before .before .before .before .before .before .before .before .before .before .before .before .before .before in
+    let p = c .before .before .before .before .before .before .before .before .before .before .before .p .given in
+    let o = c .before .before .before .before .before .before .before .before .before .before .before .before .before .before .before .before .before .before .before .before .before .«open» .ensures .lists (p .0 .0) (p .1) in
+    let r = c .before .before .shapes-hit .ensures in
+    let t = types-in (st .args .s .now) (st .args .c) (p .0 .0) (o .0) _ _ refl refl in
+    meets-there (st .args .a) (st .args .s .now) (st .args .c) _ (p .0 .0) (o .0)
+    (contents-met (p .0 .0 .head) (part (st .args .s .now) (p .0 .0 .body) (p .0 .0 .len)) _ _ _ _ (o .1) _ t (st .args .a) (st .args .c .pages) (st .args .c .shapes) _ (r .0) (r .1))
 
 pub page-hits-spec : {M : Type 1} → statement M
 page-hits-spec =
     tie.close
     (tie.spec
-    page-at-requires
+    open-requires
+    enum-known-w
+    enum-known-p
+    add-from
     add-to
-    sub-contents-hit
-    part-contents-hit-start
-    part-contents-hit-end
-    slice-relend-prefix-contents-hit
-    slice-aggregate-contents-hit
-    slice-relend-prefix-contents-hit-2
-    slice-aggregate-contents-hit-2
-    slice-relend-prefix-contents-hit-3
-    slice-aggregate-contents-hit-3
-    slice-relend-prefix-contents-hit-4
-    slice-aggregate-contents-hit-4
-    contents-hit-requires
+    sub-shapes-hit
+    part-shapes-hit-start
+    part-shapes-hit-end
+    slice-reshare-prefix-shapes-hit
+    slice-aggregate-shapes-hit
+    slice-reshare-prefix-shapes-hit-2
+    slice-aggregate-shapes-hit-2
+    slice-reshare-prefix-shapes-hit-3
+    slice-aggregate-shapes-hit-3
+    slice-reshare-prefix-shapes-hit-4
+    slice-aggregate-shapes-hit-4
+    shapes-hit-requires
     same-length
     same-length-2
     same-length-3
     same-length-4
+    returns
     same-length-5
-    returns)
+    same-length-6
+    same-length-7
+    same-length-8
+    same-length-9
+    returns-2)

@@ -12,7 +12,8 @@ use Rattle.query.specs.Ask.{opens}
 use Rattle.frame.specs.declared.cursor.Glance.{Glance}
 use Rattle.frame.specs.declared.cursor.PageAt.{PageAt}
 use Rattle.frame.specs.Step.{page, stepOf}
-use Rattle.frame.proofs.Ahead.{ahead-first, ahead-turn, ahead-stop, ahead-go, ahead-page}
+use Rattle.frame.proofs.Ahead.{ahead-turn, ahead-stop, ahead-go, ahead-page}
+use Rattle.page.proofs.Opening.{scratch-kept}
 use Rattle.search.proofs.Opened.{opened-meets}
 use Rattle.search.proofs.Meeting.{Meeting, meeting-start, meeting-end, meeting-fewer, meeting-refused, meeting-fits, meeting-more, meeting-skip}
 use borrow.Author.Needs.{needs}
@@ -31,14 +32,14 @@ abbrev μ-loop : tie.MeasureT-loop
 next-met-requires : tie.Need-next-met-requires Inv-loop μ-loop
 next-met-requires c κs =
     let st = c .before .before .before .before .before .before in
-    (st .pre .0, (_, ahead-first _ _ _ (st .pre .1 .1) (st .pre .2) .1))
+    (st .pre .0, (_, st .pre .1 .ahead))
 
 loop-holds : tie.Need-loop-holds Inv-loop μ-loop
 loop-holds c =
     let st = c .before .before .before .before .before .before .before in
     let a = st .args in
     let k = c .next-met .ensures in
-    (meeting-skip _ _ _ _ _ _ _ (meeting-start (a .a) (a .s .now) (a .flags .now) (a .from) (st .pre .1 .0) (st .pre .1 .1) (st .pre .2)) (k .skipping), k .opened, refl, refl, refl, refl)
+    (meeting-skip _ _ _ _ _ _ _ (meeting-start (a .a) (a .s .now) (a .flags .now) (a .from) (st .pre .1)) (k .skipping), k .opened, refl, refl, refl, refl)
 
 at-end-requires : tie.Need-at-end-requires Inv-loop μ-loop
 at-end-requires c κs = ahead-turn _ _ _ (c .loop .inv .0 .ahead)
@@ -51,13 +52,9 @@ page-hits-requires c κs =
     let st = c .before .before .before .before .before .before .before .before .before .before .before .before .before .before .before in
     let v = loop .inv in (
       st .pre .0,
-      v .0 .ahead .within .pages,
-      v .0 .ahead .within .shapes,
+      v .0 .ahead .within,
       ahead-go _ _ _ (loop .inv .0 .ahead) (sym (at-end .ensures) ∙ not-true _ (if1 .taken)),
-      v .2 ∙ st .pre .3,
-      v .3 ∙ st .pre .4,
-      v .4 ∙ st .pre .5,
-      v .5 ∙ st .pre .6,
+      scratch-kept _ _ _ _ _ _ _ _ (st .pre .2) (v .2) (v .3) (v .4) (v .5),
     )
 
 enum-known-n : tie.Need-enum-known-n Inv-loop μ-loop
