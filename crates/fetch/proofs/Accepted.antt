@@ -12,7 +12,7 @@ use Rattle.shape.specs.Outline.{Shape}
 use Rattle.frame.specs.Frame.{Frame, frameOf}
 use Rattle.frame.specs.Frame as frame
 use Rattle.page.specs.Contents.{countsOf, lensOf, contentsOf}
-use Rattle.page.proofs.Orders.{on-value}
+use Rattle.answer.proofs.Orders.{on-value}
 use Rattle.file.specs.File.{shapesIn}
 use Rattle.page.proofs.Contained.{contents-contained}
 use Rattle.fetch.specs.declared.row.Row.{Row}

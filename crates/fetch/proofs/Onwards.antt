@@ -16,7 +16,7 @@ use Rattle.frame.proofs.Found.{Paged, page-is}
 use Rattle.frame.proofs.Walks.{pages-on, shapes-on}
 use Rattle.frame.specs.Ahead.{Ahead, Begun}
 use Rattle.frame.proofs.Ahead.{ahead-end, ahead-page, ahead-fewer}
-use Rattle.page.proofs.Orders.{on-refused, on-value}
+use Rattle.answer.proofs.Orders.{on-refused, on-value}
 use Rattle.fetch.specs.declared.seek.SeatAt.{SeatAt}
 use Rattle.fetch.specs.declared.seek.Sought.{Sought}
 use Rattle.fetch.specs.declared.seek.Sought.the-variants.{At, Refused}

@@ -21,7 +21,7 @@ use Rattle.frame.specs.Frame.{pageOf}
 use Rattle.frame.proofs.Steps.{page-inj}
 use Rattle.page.specs.Contents.{registersOf, typesOf, countsOf, lensOf, contentsOf}
 use Rattle.page.specs.Loaded.{Loaded}
-use Rattle.page.proofs.Orders.{on-refused, on-value}
+use Rattle.answer.proofs.Orders.{on-refused, on-value}
 use Rattle.page.proofs.Contained.{counts-long, loaded-ready}
 use Rattle.fetch.specs.declared.row.Row.{Row}
 use Rattle.fetch.specs.declared.span.Span.{Span}

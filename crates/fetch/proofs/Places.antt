@@ -22,7 +22,7 @@ use Rattle.frame.specs.declared.cursor.Cursor.{Cursor}
 use Rattle.frame.specs.Step.{part}
 use Rattle.frame.specs.declared.walk.Totals.{Totals}
 use Rattle.frame.specs.Frame.{Page, Frame, shapesOf, frameOf, totalsOf}
-use Rattle.page.proofs.Orders.{on-refused, on-value}
+use Rattle.answer.proofs.Orders.{on-refused, on-value}
 use Rattle.fetch.specs.declared.row.Row.{Row}
 use Rattle.fetch.specs.declared.seek.SeatAt.{SeatAt}
 use Rattle.fetch.specs.declared.seek.Sought.{Sought}

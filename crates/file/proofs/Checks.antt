@@ -15,7 +15,7 @@ use Rattle.frame.specs.Ahead.{Begun}
 use Rattle.frame.specs.Said.{saidChecked}
 use Rattle.frame.specs.declared.walk.Checked.the-variants.{Sound, Refused}
 use Rattle.shape.specs.Outline.{Shape}
-use Rattle.page.proofs.Orders.{on-refused, on-value}
+use Rattle.answer.proofs.Orders.{on-refused, on-value}
 use Rattle.file.specs.File.{pagesOf, restOf, shapesIn}
 use Rattle.file.specs.Check.{checkOf}
 use Rattle.file.proofs.Rests.{rest-is}

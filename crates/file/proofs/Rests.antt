@@ -19,7 +19,7 @@ use Rattle.frame.proofs.Ahead.{ahead-page, ahead-end, ahead-fewer}
 use Rattle.shape.specs.Outline.{Shape}
 use Rattle.page.specs.Contents.{contentsOf}
 use Rattle.page.specs.Opened.{contentsIn}
-use Rattle.page.proofs.Orders.{on-value}
+use Rattle.answer.proofs.Orders.{on-value}
 use Rattle.file.specs.File.{pagesOf, restOf}
 
 -- ---- the shapes of pages, by the first

@@ -15,10 +15,10 @@ use Rattle.types.specs.Parts.{partsHold, partsRule}
 use Rattle.types.proofs.Agreeing.{agree-even}
 use Rattle.types.proofs.Passed.{parts-passed, hold-agree}
 use Rattle.shape.specs.Outline.{Outline, Shape, outlinesOf, registered}
-use Rattle.shape.specs.Rules.{boxHolds, boxRule}
+use Rattle.shape.specs.Rules.{boxHolds, boxRule, outlineRules}
 use Rattle.shape.proofs.Outlines.{outlines-length, shapes-length}
 use Rattle.frame.specs.declared.head.Head.{Head}
-use Rattle.page.specs.Contents.{registersOf, typesOf, countsOf, lensOf, Vertices, verticesOf, outlineRules, contentsOf}
+use Rattle.page.specs.Contents.{registersOf, typesOf, countsOf, lensOf, Vertices, verticesOf, contentsOf}
 use Rattle.page.specs.Loaded.{Loaded}
 use Rattle.page.proofs.Vertices.{vertices-long}
 

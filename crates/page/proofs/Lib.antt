@@ -1,7 +1,6 @@
 pub mod Givens
 pub mod Vertices
-pub mod Orders
-pub mod Ruled
+pub mod Judging
 pub mod Loading
 pub mod Contained
 pub mod Opening

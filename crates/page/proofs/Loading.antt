@@ -23,11 +23,11 @@ use Rattle.frame.specs.Head.{headOf}
 use Rattle.frame.proofs.Layouts.{columns-at}
 use Rattle.frame.proofs.Heads.{head-is, head-limits, head-finite, head-patterns}
 use Rattle.shape.specs.Outline.{Outline, outlinesOf, registered}
-use Rattle.shape.specs.Rules.{boxHolds, boxRule}
-use Rattle.page.specs.Contents.{registersOf, typesOf, countsOf, lensOf, verticesOf, outlineRules, contentsOf}
+use Rattle.shape.specs.Rules.{boxHolds, boxRule, outlineRules}
+use Rattle.page.specs.Contents.{registersOf, typesOf, countsOf, lensOf, verticesOf, contentsOf}
 use Rattle.page.specs.Loaded.{Columns, Loaded, Loads}
-use Rattle.page.proofs.Orders.{on-refused, on-value, on-on, then-refused, then-holds}
-use Rattle.page.proofs.Ruled.{ruled-all}
+use Rattle.answer.proofs.Orders.{on-refused, on-value, on-on, then-refused, then-holds}
+use Rattle.shape.proofs.Ruled.{ruled-all}
 
 -- ---- where things stand
 

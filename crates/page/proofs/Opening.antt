@@ -27,7 +27,7 @@ use Rattle.page.specs.declared.open.Opened.the-variants.{Page, Refused}
 use Rattle.page.specs.Contents.{typesOf, contentsOf}
 use Rattle.page.specs.Loaded.{Loaded}
 use Rattle.page.specs.Opened.{Scratch, contentsIn, saidOpened, InScratch, Opens}
-use Rattle.page.proofs.Orders.{on-refused, on-value}
+use Rattle.answer.proofs.Orders.{on-refused, on-value}
 use Rattle.page.proofs.Loading.{head-stands}
 use Rattle.page.proofs.Vertices.{vertices-long}
 use Rattle.page.proofs.Contained.{counts-long, lens-long}

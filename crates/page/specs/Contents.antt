@@ -10,7 +10,7 @@ use Rattle.extent.specs.Boxes.{patterns}
 use Rattle.types.specs.Parts.{partsRule}
 use Rattle.frame.specs.declared.head.Head.{Head}
 use Rattle.shape.specs.Outline.{Outline, Shape, outlinesOf, registered}
-use Rattle.shape.specs.Rules.{finiteRule, ringRule, gridRule, turnRule, boxRule}
+use Rattle.shape.specs.Rules.{boxRule, outlineRules}
 
 -- ---- what stands in a body, where its layout says
 
@@ -51,21 +51,6 @@ verticesOf h b =
     ok (record { xs = xs; ys = ys })))
 
 -- ---- the rules, in order
-
--- of outlines with the vertices xs and ys: 12, 13, 14, 15
-unfoldable pub outlineRules : List Outline → List ℕ → List ℕ → Out (Unit {0})
-outlineRules os xs ys =
-    on (finiteRule xs ys) (λ _.
-    on (ringRule os) (λ _.
-    on (gridRule os) (λ _.
-    turnRule os)))
-
--- those behind 12, for inner steps; no service speaks of it
-unfoldable pub ringRules : List Outline → Out (Unit {0})
-ringRules os =
-    on (ringRule os) (λ _.
-    on (gridRule os) (λ _.
-    turnRule os))
 
 -- a page's shapes
 unfoldable pub contentsOf : Head → List ℕ → Out (List Shape)

@@ -10,11 +10,9 @@ ghost use Rattle.extent.specs.Boxes.{patterns, FiniteBox};
 ghost use Rattle.types.specs.Parts.{partsHold};
 ghost use Rattle.frame.specs.Head.{headOf};
 ghost use Rattle.shape.specs.Outline.{outlinesOf};
-ghost use Rattle.shape.specs.Rules.{boxRule};
-ghost use Rattle.page.specs.Contents.{outlineRules};
+ghost use Rattle.shape.specs.Rules.{boxRule, outlineRules};
 ghost use Rattle.page.specs.Loaded.{Loads};
 use crate::columns::columns;
-use crate::rules::ring_rules;
 use answer::Refusal;
 use answer::Verdict;
 use answer::table::FINITE;
@@ -23,6 +21,7 @@ use extent::boxes::Form;
 use extent::boxes::box_if_finite;
 use frame::head::Head;
 use le::run::read_u16s;
+use shape::ordered::ring_rules;
 use shape::rules::box_rule;
 use types::parts::parts_rule;
 
@@ -51,7 +50,7 @@ fn page_rules(
 
 // The contents of a page with a head that was read from its body. The scratch has room for exactly as many part counts, part lengths and
 // vertices as the head says.
-pub fn load(
+pub(crate) fn load(
     b: &[u8],
     h: Head,
     counts: &mut [u16],

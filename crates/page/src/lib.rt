@@ -1,5 +1,4 @@
 // A page's contents: its tables, its two columns as parts of the body, and the rules over them, in order.
 mod columns;
-pub mod contents;
+mod contents;
 pub mod open;
-pub mod rules;

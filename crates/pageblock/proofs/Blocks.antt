@@ -14,7 +14,7 @@ use Rattle.answer.specs.Outcome.{refused, ok}
 use Rattle.answer.specs.Rule.{judged}
 use Rattle.answer.proofs.Outcomes.{ok-inj, on-ok, met, unmet}
 use Rattle.answer.proofs.Rules.{judged-holds}
-use Rattle.page.proofs.Orders.{on-refused, on-value, then-refused, then-holds}
+use Rattle.answer.proofs.Orders.{on-refused, on-value, then-refused, then-holds}
 use Rattle.pageblock.specs.Body.{Handed, pageBytes}
 use Rattle.pageblock.specs.Page.{pageRules, pageWritten, roomFor, pageBlockOf}
 use Rattle.pageblock.proofs.Passing.{Passed, rules-passed}

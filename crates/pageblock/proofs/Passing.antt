@@ -19,11 +19,10 @@ use Rattle.answer.proofs.Both.{both-l, both-r}
 use Rattle.types.specs.Parts.{partsHold, partsRule}
 use Rattle.types.proofs.Passed.{parts-passed}
 use Rattle.extent.specs.Rank.{allFinite}
-use Rattle.shape.specs.Rules.{finiteRule}
+use Rattle.shape.specs.Rules.{finiteRule, outlineRules}
 use Rattle.frame.specs.Head.{countsOk}
 use Rattle.frame.proofs.Counts.{Limits, counts-limits}
-use Rattle.page.specs.Contents.{outlineRules}
-use Rattle.page.proofs.Orders.{on-refused, on-value, then-refused, then-holds}
+use Rattle.answer.proofs.Orders.{on-refused, on-value, then-refused, then-holds}
 use Rattle.pageblock.specs.Body.{Handed}
 use Rattle.pageblock.specs.Page.{slicesAgree, countsHold, countsRule, outlines, pageRules}
 use Rattle.pageblock.specs.Ready.{Even, Sound}

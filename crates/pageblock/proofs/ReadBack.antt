@@ -31,7 +31,7 @@ use Rattle.frame.proofs.Forms.{box-none, box-some, box-finite}
 use Rattle.frame.proofs.Heads.{Headed, is-head, head-long}
 use Rattle.frame.proofs.Layouts.{columns-at}
 use Rattle.page.specs.Contents.{registersOf, typesOf, countsOf, lensOf, xPart, yPart, verticesOf, contentsOf}
-use Rattle.page.proofs.Orders.{on-value}
+use Rattle.answer.proofs.Orders.{on-value}
 use Rattle.pageblock.specs.Body.{Handed, bodyOf}
 use Rattle.pageblock.specs.Page.{outlines}
 use Rattle.pageblock.specs.Typed.{Typed}

@@ -11,7 +11,7 @@ use Rattle.answer.specs.Rule.{rule}
 use Rattle.types.specs.Parts.{partsRule}
 use Rattle.shape.specs.Outline.{Outline, outlinesOf}
 use Rattle.frame.specs.Head.{countsOk}
-use Rattle.page.specs.Contents.{outlineRules}
+use Rattle.shape.specs.Rules.{outlineRules}
 use Rattle.pageblock.specs.Body.{Handed, pageBytes}
 
 -- a type and a part count for each register, and a y for each x

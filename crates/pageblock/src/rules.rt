@@ -7,7 +7,7 @@ use answer::Refusal;
 use answer::Verdict;
 use answer::table::COUNTS;
 use frame::head::counts_ok;
-use page::rules::outline_rules;
+use shape::ordered::outline_rules;
 use types::parts::parts_rule;
 
 // Whether there is a type and a part count for each register, and a y for each x, and the counts are within the limits.

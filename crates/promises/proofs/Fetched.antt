@@ -16,7 +16,7 @@ use Rattle.answer.proofs.Both.{no-both}
 use Rattle.query.specs.declared.ask.Ask.{Ask}
 use Rattle.shape.specs.Outline.{Shape}
 use Rattle.page.specs.Contents.{contentsOf}
-use Rattle.page.proofs.Orders.{on-value}
+use Rattle.answer.proofs.Orders.{on-value}
 use Rattle.page.proofs.Contained.{contents-long}
 use Rattle.file.specs.File.{shapesIn}
 use Rattle.search.specs.Search.{hitsOf, searchOf}

@@ -24,7 +24,7 @@ use Rattle.query.specs.Ask.{opens}
 use Rattle.query.specs.Block.{instead, lenOf, blockLen, spotAsked, windowAsked, asked, askOf}
 use Rattle.types.specs.Parts.{partsRule}
 use Rattle.shape.specs.Outline.{Outline, Shape}
-use Rattle.shape.specs.Rules.{finiteRule, ringRule, gridRule, turnRule, boxRule}
+use Rattle.shape.specs.Rules.{finiteRule, ringRule, gridRule, turnRule, boxRule, outlineRules}
 use Rattle.frame.specs.declared.cursor.Cursor.{Cursor}
 use Rattle.frame.specs.declared.cursor.PageAt.{PageAt}
 use Rattle.frame.specs.declared.head.Head.{Head}
@@ -33,7 +33,7 @@ use Rattle.frame.specs.Step.{Turn, firstStep, firstOf, pageStep, endStep, kindS
 use Rattle.frame.specs.Step as turn
 use Rattle.frame.specs.Frame as framed
 use Rattle.frame.specs.Frame.{Page, turned, walk, frameOf}
-use Rattle.page.specs.Contents.{verticesOf, outlineRules, contentsOf}
+use Rattle.page.specs.Contents.{verticesOf, contentsOf}
 use Rattle.pageblock.specs.Body.{Handed}
 use Rattle.pageblock.specs.Page.{countsRule, pageRules, pageWritten, roomFor, pageBlockOf}
 use Rattle.writer.specs.declared.Writer.{Writer}

@@ -18,7 +18,7 @@ use Rattle.frame.proofs.Found.{first-is, page-is}
 use Rattle.frame.specs.Ahead.{Within}
 use Rattle.frame.proofs.Walks.{pages-on, within-on, fuel, fuel-on, walk-refused, walk-page}
 use Rattle.frame.proofs.Parts.{bytes-at, stands-block}
-use Rattle.page.proofs.Orders.{on-refused, on-value}
+use Rattle.answer.proofs.Orders.{on-refused, on-value}
 use Rattle.promises.specs.Refusing.{Refuses}
 use Rattle.promises.specs.Numbers as numbers
 use Rattle.promises.specs.Pages.{Passed, none, more, BlocksBefore, InFrame, first, behind, HasPage, frame-refusal}

@@ -17,14 +17,14 @@ use Rattle.types.specs.Parts.{total, fits, lengthsFit, rowAgrees, shapeAgrees, 
 use Rattle.grid.specs.Grid.{onGrid, wholeOf}
 use Rattle.grid.specs.Turn.{turnOf, clockwise, zeroTurn}
 use Rattle.shape.specs.Outline.{outlinesOf, partsOf, registered}
-use Rattle.shape.specs.Rules.{finiteRule, endsMeet, closedRing, ringsClosed, ringRule, onGridShape, gridRule, ringTurn, turnNotZero, firstClockwise, ringsTurned, turnsHold, turnRule, boxHolds, boxRule}
+use Rattle.shape.specs.Rules.{finiteRule, endsMeet, closedRing, ringsClosed, ringRule, onGridShape, gridRule, ringTurn, turnNotZero, firstClockwise, ringsTurned, turnsHold, turnRule, boxHolds, boxRule, outlineRules}
 use Rattle.frame.specs.Layout.{each, layoutOf}
 use Rattle.frame.specs.Head as page
 use Rattle.frame.specs.Head.{countsOk, allZero, boxOk, sizedHead}
 use Rattle.frame.specs.Step.{firstCursor, firstStep, firstOf, pageStep, endStep, kindStep, stepOf}
 use Rattle.frame.specs.Frame as frame
 use Rattle.frame.specs.Frame.{walk, frameOf}
-use Rattle.page.specs.Contents.{registersOf, typesOf, countsOf, lensOf, xPart, yPart, verticesOf, outlineRules, contentsOf}
+use Rattle.page.specs.Contents.{registersOf, typesOf, countsOf, lensOf, xPart, yPart, verticesOf, contentsOf}
 use Rattle.file.specs.File.{pagesOf}
 use Rattle.file.specs.Check.{checkOf}
 use Rattle.query.specs.Ask.{sound, reachOf, stored, inWindow, touches, hit, opens}

@@ -19,7 +19,7 @@ use Rattle.extent.specs.Boxes.{patterns}
 use Rattle.types.specs.Parts.{partsRule}
 use Rattle.types.proofs.Passed.{parts-passed}
 use Rattle.shape.specs.Outline.{Shape}
-use Rattle.shape.specs.Rules.{finiteRule, ringRule, gridRule, turnRule, boxHolds, boxRule}
+use Rattle.shape.specs.Rules.{finiteRule, ringRule, gridRule, turnRule, boxHolds, boxRule, outlineRules}
 use Rattle.shape.proofs.Passing.{finite-passed, ring-passed, grid-passed, turn-passed}
 use Rattle.frame.specs.declared.head.Head.{Head}
 use Rattle.frame.specs.declared.walk.Totals.{Totals}
@@ -29,8 +29,8 @@ use Rattle.frame.specs.Frame as frame
 use Rattle.frame.specs.Whole.{Every, none, more, blockOf, pageBlocks, endBlock, fileOf}
 use Rattle.frame.proofs.Heads.{head-is, head-limits}
 use Rattle.frame.proofs.Wholes.{frame-is, is-frame}
-use Rattle.page.specs.Contents.{typesOf, countsOf, lensOf, xPart, yPart, Vertices, verticesOf, outlineRules, contentsOf}
-use Rattle.page.proofs.Orders.{on-value}
+use Rattle.page.specs.Contents.{typesOf, countsOf, lensOf, xPart, yPart, Vertices, verticesOf, contentsOf}
+use Rattle.answer.proofs.Orders.{on-value}
 use Rattle.file.specs.File.{pagesOf, shapesIn}
 use Rattle.file.specs.Check.{checkOf}
 use Rattle.file.proofs.Rests.{pages-first}

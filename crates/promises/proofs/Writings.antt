@@ -9,7 +9,7 @@ use lib.ListN.{length}
 use Rattle.answer.specs.Outcome.{ok}
 use Rattle.frame.specs.Frame.{totalsOf}
 use Rattle.shape.specs.Outline.{registered}
-use Rattle.page.proofs.Orders.{on-value}
+use Rattle.answer.proofs.Orders.{on-value}
 use Rattle.pageblock.specs.Body.{Handed}
 use Rattle.pageblock.specs.Page.{outlines}
 use Rattle.pageblock.specs.Written.{pageFor}

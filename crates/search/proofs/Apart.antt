@@ -25,7 +25,7 @@ use Rattle.frame.proofs.Heads.{head-is}
 use Rattle.frame.proofs.Found.{first-is, page-is}
 use Rattle.frame.specs.Ahead.{Ahead}
 use Rattle.frame.proofs.Ahead.{ahead-start, ahead-some}
-use Rattle.page.proofs.Orders.{on-value}
+use Rattle.answer.proofs.Orders.{on-value}
 use Rattle.search.specs.Search.{pageHits, metOf, hitsOf, searchOf, countOf}
 use Rattle.search.specs.Alike.{AlikePage, Alike, none, more}
 use Rattle.search.proofs.Sequence.{met-cons, met-order, hits-order}

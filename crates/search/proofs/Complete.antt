@@ -19,7 +19,7 @@ use Rattle.query.specs.Ask.{sound, hit, opens}
 use Rattle.shape.specs.Outline.{Outline, Shape}
 use Rattle.frame.specs.Frame.{Page, Frame, frameOf}
 use Rattle.page.specs.Contents.{contentsOf}
-use Rattle.page.proofs.Orders.{on-value}
+use Rattle.answer.proofs.Orders.{on-value}
 use Rattle.page.proofs.Contained.{contents-long}
 use Rattle.file.specs.File.{pagesOf, shapesIn}
 use Rattle.search.specs.Search.{placesOf, hitsFrom, pageHits, metOf, hitsOf, searchOf, countOf}

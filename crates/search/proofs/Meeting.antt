@@ -25,7 +25,7 @@ use Rattle.search.specs.Search.{pageHits, metOf, metIn}
 use Rattle.search.specs.Flags.{bitsOf}
 use Rattle.search.specs.Met.{Meets}
 use Rattle.search.specs.Skipped.{Skipping}
-use Rattle.page.proofs.Orders.{on-value}
+use Rattle.answer.proofs.Orders.{on-value}
 use Rattle.search.proofs.Sequence.{met-none, met-order, met-refused, met-page, met-joined, met-alone, met-last, met-stopped}
 use Rattle.search.proofs.Rising.{rising-few, rising-under}
 use Rattle.search.proofs.Opened.{meets-refused, meets-ok, meets-refusal, meets-hits, page-ascends}

@@ -24,7 +24,7 @@ use Rattle.frame.specs.Frame.{Page, pageOf}
 use Rattle.frame.proofs.Steps.{page-inj}
 use Rattle.page.specs.Contents.{registersOf, typesOf, countsOf, lensOf, contentsOf}
 use Rattle.page.specs.Loaded.{Loaded}
-use Rattle.page.proofs.Orders.{on-refused, on-value}
+use Rattle.answer.proofs.Orders.{on-refused, on-value}
 use Rattle.page.proofs.Contained.{contents-contained, outlines-long, shapes-outlines, loaded-ready}
 use Rattle.search.specs.declared.count.Counted.{Counted}
 use Rattle.search.specs.declared.count.Counted.the-variants.{Hits, Refused}

@@ -10,7 +10,7 @@ use Rattle.query.specs.declared.ask.Ask.{Ask}
 use Rattle.query.specs.Ask.{sound}
 use Rattle.frame.specs.Frame.{Page, frameOf}
 use Rattle.search.specs.Search.{pageHits, metOf, metIn, hitsOf}
-use Rattle.page.proofs.Orders.{on-refused, on-value}
+use Rattle.answer.proofs.Orders.{on-refused, on-value}
 
 -- page after page, and the places go on by the shapes of a page
 pub met-none : (a : Ask) (k n : ℕ) → metOf a k n [] ≡ ok []

@@ -21,7 +21,7 @@ use Rattle.le.specs.Number.{number}
 use Rattle.query.specs.declared.ask.Ask.{Ask}
 use Rattle.query.specs.Ask.{sound}
 use Rattle.frame.specs.Frame.{frameOf}
-use Rattle.page.proofs.Orders.{on-refused, on-value, then-refused, then-holds}
+use Rattle.answer.proofs.Orders.{on-refused, on-value, then-refused, then-holds}
 use Rattle.search.specs.declared.count.Counted.{Counted}
 use Rattle.search.specs.declared.count.Counted.the-variants.{Hits, Refused}
 use Rattle.search.specs.Search.{metIn, hitsOf, searchOf, countOf, saidCount}

@@ -8,5 +8,6 @@ pub mod Whiches
 pub mod Outlines
 pub mod Passing
 pub mod Bounding
+pub mod Ruled
 pub mod Grouping
 pub mod Worked

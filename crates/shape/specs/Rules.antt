@@ -6,7 +6,7 @@ use lib.Dec.{ltb, eqb}
 use lib.IntN.{ℤ}
 use lib.ListN.{length, getD}
 use Rattle.answer.specs.Table as table
-use Rattle.answer.specs.Outcome.{Out}
+use Rattle.answer.specs.Outcome.{Out, on}
 use Rattle.answer.specs.Rule.{rule}
 use Rattle.answer.specs.Every.{allOf}
 use Rattle.types.specs.Types.{typeRow}
@@ -96,3 +96,20 @@ boxHolds p xs ys = not (ltb 0 (length xs)) || sameBox p (boxOf xs ys)
 -- 16, by the page's box and its vertices
 unfoldable pub boxRule : Bounds → List ℕ → List ℕ → Out (Unit {0})
 boxRule p xs ys = rule (boxHolds p xs ys) table.boxValue
+
+-- ---- in order
+
+-- of outlines with the vertices xs and ys: 12, 13, 14, 15
+unfoldable pub outlineRules : List Outline → List ℕ → List ℕ → Out (Unit {0})
+outlineRules os xs ys =
+    on (finiteRule xs ys) (λ _.
+    on (ringRule os) (λ _.
+    on (gridRule os) (λ _.
+    turnRule os)))
+
+-- those behind 12, for inner steps; no service speaks of it
+unfoldable pub ringRules : List Outline → Out (Unit {0})
+ringRules os =
+    on (ringRule os) (λ _.
+    on (gridRule os) (λ _.
+    turnRule os))

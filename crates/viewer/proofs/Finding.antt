@@ -12,7 +12,7 @@ use Rattle.answer.specs.Refusal.{because}
 use Rattle.answer.specs.Outcome.{Out, refused, ok, need, on, filled}
 use Rattle.answer.proofs.Outcomes.{never, refused-inj, on-ok}
 use Rattle.shape.specs.Outline.{Shape}
-use Rattle.page.proofs.Orders.{on-value}
+use Rattle.answer.proofs.Orders.{on-value}
 use Rattle.fetch.specs.declared.fetch.Found.{Found}
 use Rattle.fetch.specs.declared.fetch.Fetched.{Fetched}
 use Rattle.fetch.specs.declared.fetch.Fetched.the-variants as fetched

@@ -16,7 +16,7 @@ use Rattle.answer.specs.Table as table
 use Rattle.answer.specs.Refusal.{because}
 use Rattle.answer.specs.Outcome.{Out, refused, ok, need, on, filled, answered, Fills}
 use Rattle.answer.proofs.Outcomes.{ok-inj, need-ok, on-ok}
-use Rattle.page.proofs.Orders.{on-refused, on-value}
+use Rattle.answer.proofs.Orders.{on-refused, on-value}
 use Rattle.pageblock.specs.Body.{Handed}
 use Rattle.pageblock.specs.Page.{pageWritten, roomFor, pageBlockOf}
 use Rattle.pageblock.proofs.Passing.{even-limits, rules-passed}

@@ -12,7 +12,7 @@ use Rattle.answer.specs.Outcome.{refused, ok, on}
 use Rattle.answer.proofs.Outcomes.{met, unmet}
 use Rattle.answer.proofs.Rules.{rule-holds, rule-fails}
 use Rattle.frame.specs.Whole.{endBlock}
-use Rattle.page.proofs.Orders.{on-refused, on-value}
+use Rattle.answer.proofs.Orders.{on-refused, on-value}
 use Rattle.pageblock.specs.Body.{Handed}
 use Rattle.pageblock.specs.Page.{pageWritten}
 use Rattle.writer.specs.declared.Writer.{Writer}

@@ -3,7 +3,7 @@ use mathlib.Core.Path.{_∙_}
 use Rattle.extent.specs.Boxes.{patterns}
 use Rattle.shape.specs.Outline.{outlinesOf}
 use Rattle.shape.proofs.Bounding.{finite-holds, finite-fails, own-box, box-rule-is}
-use Rattle.page.proofs.Ruled.{whole-finite, whole-rings, whole-box}
+use Rattle.page.proofs.Judging.{whole-finite, whole-rings, whole-box}
 use borrow.Author.Needs.{needs}
 use Rattle.page.proofs.contents.page_rules.Statement.{statement}
 use Rattle.page.proofs.contents.page_rules.Tie as tie

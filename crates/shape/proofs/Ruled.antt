@@ -1,9 +1,9 @@
--- Rules 12 to 15 in order, and 16 after them: one law for each way through, and what it means that all have passed. Assumes nothing.
+-- Rules 12 to 15 in order: one law for each way through, and what it means that all have passed. Assumes nothing.
 use Prim.Native.Nat.{ℕ}
 use mathlib.Core.Path.{_≡_, sym, _∙_}
 use mathlib.Core.Bool.{true}
 use mathlib.Core.List.{List}
-use Rattle.answer.specs.Outcome.{Out, ok, on}
+use Rattle.answer.specs.Outcome.{ok}
 use Rattle.answer.specs.Rule.{judged}
 use Rattle.answer.specs.declared.Refusal.{Refusal}
 use Rattle.answer.specs.declared.Verdict.{Verdict}
@@ -11,13 +11,11 @@ use Rattle.answer.specs.declared.Verdict.the-variants.{Holds, Refused}
 use Rattle.answer.proofs.Outcomes.{on-ok}
 use Rattle.answer.proofs.Rules.{judged-holds, judged-refused}
 use Rattle.extent.specs.Rank.{allFinite}
-use Rattle.extent.specs.Boxes.{Bounds}
 use Rattle.answer.specs.Every.{allOf}
 use Rattle.shape.specs.Outline.{Outline}
+use Rattle.shape.specs.Rules.{finiteRule, ringRule, gridRule, turnRule, onGridShape, ringRules, outlineRules}
 use Rattle.shape.proofs.Passing.{finite-passed, grid-passed}
-use Rattle.shape.specs.Rules.{finiteRule, ringRule, gridRule, turnRule, boxRule, onGridShape}
-use Rattle.page.specs.Contents.{ringRules, outlineRules}
-use Rattle.page.proofs.Orders.{then-refused, then-holds}
+use Rattle.answer.proofs.Orders.{then-refused, then-holds}
 
 -- before 15, that all are on grid
 pub grid-held : (os : List Outline) → judged Holds ≡ gridRule os → allOf onGridShape os ≡ true
@@ -47,21 +45,6 @@ module _ (os : List Outline) (xs ys : List ℕ) where
   pub ruled-rings : judged Holds ≡ finiteRule xs ys → outlineRules os xs ys ≡ ringRules os
   unfolding outlineRules ringRules
   ruled-rings f = then-holds (finiteRule xs ys) _ f
-
--- and 16 after them
-module _ (p : Bounds) (os : List Outline) (xs ys : List ℕ) where
-  abbrev whole : Out (Unit {0})
-  whole = on (outlineRules os xs ys) (λ _. boxRule p xs ys)
-
-  pub whole-finite : (w : Refusal) → judged (Refused w) ≡ finiteRule xs ys → judged (Refused w) ≡ whole
-  whole-finite w e = judged-refused w ∙ sym (then-refused (outlineRules os xs ys) _ w (ruled-finite os xs ys w e))
-
-  module _ (f : judged Holds ≡ finiteRule xs ys) where
-    pub whole-rings : (w : Refusal) → judged (Refused w) ≡ ringRules os → judged (Refused w) ≡ whole
-    whole-rings w e = judged-refused w ∙ sym (then-refused (outlineRules os xs ys) _ w (e ∙ sym (ruled-rings os xs ys f)))
-
-    pub whole-box : (v : Verdict) → judged Holds ≡ ringRules os → judged v ≡ boxRule p xs ys → judged v ≡ whole
-    whole-box v r e = e ∙ sym (then-holds (outlineRules os xs ys) _ (r ∙ sym (ruled-rings os xs ys f)))
 
 -- all have passed: so all coordinates are finite
 pub ruled-all : (os : List Outline) (xs ys : List ℕ) → outlineRules os xs ys ≡ ok tt → (allFinite xs ≡ true) × (allFinite ys ≡ true)

@@ -1,9 +1,9 @@
--- `page::rules::outline_rules` gives the verdict of rule 12, and then of 13 to 15. Assumes nothing.
+-- `shape::ordered::outline_rules` gives the verdict of rule 12, and then of 13 to 15. Assumes nothing.
 use mathlib.Core.Path.{sym, _∙_}
-use Rattle.page.proofs.Ruled.{ruled-finite, ruled-rings}
+use Rattle.shape.proofs.Ruled.{ruled-finite, ruled-rings}
 use borrow.Author.Needs.{needs}
-use Rattle.page.proofs.rules.outline_rules.Statement.{statement}
-use Rattle.page.proofs.rules.outline_rules.Tie as tie
+use Rattle.shape.proofs.ordered.outline_rules.Statement.{statement}
+use Rattle.shape.proofs.ordered.outline_rules.Tie as tie
 
 finite-rule-requires : tie.Need-finite-rule-requires
 finite-rule-requires c κs = search needs

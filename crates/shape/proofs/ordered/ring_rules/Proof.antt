@@ -1,9 +1,9 @@
--- `page::rules::ring_rules` gives the verdict of rules 13 to 15, in order: a law for each return. Assumes nothing.
+-- `shape::ordered::ring_rules` gives the verdict of rules 13 to 15, in order: a law for each return. Assumes nothing.
 use Rattle.shape.specs.Outline.{outlinesOf}
-use Rattle.page.proofs.Ruled.{grid-held, ruled-ring, ruled-grid, ruled-turn}
+use Rattle.shape.proofs.Ruled.{grid-held, ruled-ring, ruled-grid, ruled-turn}
 use borrow.Author.Needs.{needs}
-use Rattle.page.proofs.rules.ring_rules.Statement.{statement}
-use Rattle.page.proofs.rules.ring_rules.Tie as tie
+use Rattle.shape.proofs.ordered.ring_rules.Statement.{statement}
+use Rattle.shape.proofs.ordered.ring_rules.Tie as tie
 
 ring-rule-requires : tie.Need-ring-rule-requires
 ring-rule-requires c κs = search needs
