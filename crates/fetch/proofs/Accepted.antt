@@ -15,19 +15,20 @@ use Rattle.page.specs.Contents.{countsOf, lensOf, contentsOf}
 use Rattle.answer.proofs.Orders.{on-value}
 use Rattle.file.specs.File.{shapesIn}
 use Rattle.page.proofs.Contained.{contents-contained}
-use Rattle.fetch.specs.declared.row.Row.{Row}
-use Rattle.fetch.specs.declared.span.Span.{Span}
-use Rattle.fetch.specs.Seek.{Seat, seatOf}
-use Rattle.fetch.specs.Row.{rowOf}
-use Rattle.fetch.specs.Span.{spanOf, shapeFrom}
-use Rattle.fetch.specs.Fetch.{shapeAt, shapeOf, shapeIn, Rooms, inRooms, fetchOf}
-use Rattle.fetch.specs.Rows.{seatRow, rowIn, rowsIn}
-use Rattle.fetch.proofs.Seeking.{seek-beyond, seek-within, seek-inside}
-use Rattle.fetch.proofs.Onwards.{seat-sound}
-use Rattle.fetch.proofs.Nth.{nth-none, nth-some}
+use Rattle.place.specs.declared.row.Row.{Row}
+use Rattle.place.specs.declared.span.Span.{Span}
+use Rattle.place.specs.Seek.{Seat, seatOf}
+use Rattle.place.specs.Row.{rowOf}
+use Rattle.place.specs.Span.{spanOf, shapeFrom}
+use Rattle.place.specs.Nth.{shapeAt}
+use Rattle.fetch.specs.Fetch.{shapeOf, shapeIn, Rooms, inRooms, fetchOf}
+use Rattle.place.specs.Rows.{seatRow, rowIn, rowsIn}
+use Rattle.place.proofs.Seeking.{seek-beyond, seek-within, seek-inside}
+use Rattle.place.proofs.Onwards.{seat-sound}
+use Rattle.place.proofs.Nth.{nth-none, nth-some}
 use Rattle.fetch.proofs.Opens.{place-refused, listed-shape}
 use Rattle.fetch.proofs.Fetching.{fetch-nth}
-use Rattle.fetch.proofs.Places.{no-row, rows-framed}
+use Rattle.place.proofs.Places.{no-row, rows-framed}
 
 -- ---- 17, whatever stands in the pages: exactly where the frame's pages have not so many shapes
 

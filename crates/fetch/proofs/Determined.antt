@@ -7,9 +7,9 @@ use Rattle.answer.specs.Outcome.{Out, Fills}
 use Rattle.answer.proofs.Determined.{determined}
 use Rattle.shape.specs.Outline.{Shape}
 use Rattle.fetch.specs.declared.fetch.Fetched.{Fetched}
-use Rattle.fetch.specs.declared.row.Row.{Row}
+use Rattle.place.specs.declared.row.Row.{Row}
 use Rattle.fetch.specs.Fetch.{Fetches}
-use Rattle.fetch.specs.Rows.{registersFrom, typesFrom}
+use Rattle.place.specs.Rows.{registersFrom, typesFrom}
 
 -- of a fetch
 pub fetch-determined : {o : Out Shape} {dl dx dy : List ℕ} {r r′ : Fetched} {el ex ey el′ ex′ ey′ : List ℕ} → Fetches o dl dx dy r el ex ey → Fetches o dl dx dy r′ el′ ex′ ey′

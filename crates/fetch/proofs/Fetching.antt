@@ -15,11 +15,12 @@ use Rattle.page.specs.Contents.{contentsOf}
 use Rattle.answer.proofs.Orders.{on-refused, on-value}
 use Rattle.page.proofs.Contained.{contents-long}
 use Rattle.file.specs.File.{pagesOf, shapesIn}
-use Rattle.fetch.specs.Seek.{Seat, seekIn}
-use Rattle.fetch.specs.Fetch.{shapeAt, shapeOf, shapeIn}
-use Rattle.fetch.proofs.Seeking.{seek-none, seek-here, seek-on}
-use Rattle.fetch.proofs.Onwards.{seat-sound}
-use Rattle.fetch.proofs.Nth.{nth-none, nth-left, nth-right}
+use Rattle.place.specs.Seek.{Seat, seekIn}
+use Rattle.place.specs.Nth.{shapeAt}
+use Rattle.fetch.specs.Fetch.{shapeOf, shapeIn}
+use Rattle.place.proofs.Seeking.{seek-none, seek-here, seek-on}
+use Rattle.place.proofs.Onwards.{seat-sound}
+use Rattle.place.proofs.Nth.{nth-none, nth-left, nth-right}
 use Rattle.fetch.proofs.Opens.{seat-contents}
 
 -- the shapes of pages, by the first page

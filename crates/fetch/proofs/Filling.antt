@@ -12,10 +12,10 @@ use Rattle.answer.specs.declared.Refusal.{Refusal}
 use Rattle.answer.specs.Outcome.{Out, refused, ok, on, filled}
 use Rattle.answer.proofs.Outcomes.{met, unmet}
 use Rattle.shape.specs.Outline.{Shape}
-use Rattle.fetch.specs.declared.row.Row.{Row}
-use Rattle.fetch.specs.declared.span.Span.{Span}
+use Rattle.place.specs.declared.row.Row.{Row}
+use Rattle.place.specs.declared.span.Span.{Span}
 use Rattle.fetch.specs.declared.fetch.Fetched.the-variants as fetched
-use Rattle.fetch.specs.Span.{shapeFrom}
+use Rattle.place.specs.Span.{shapeFrom}
 use Rattle.fetch.specs.Fetch.{Rooms, roomsOf, roomy, inRooms, answerOf, listOf, Fetches}
 
 -- a refusal says so and leaves the rooms

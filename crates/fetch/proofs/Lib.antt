@@ -1,11 +1,5 @@
-pub mod Seeking
-pub mod Onwards
-pub mod Nth
-pub mod Spans
-pub mod Tables
 pub mod Filling
 pub mod Opens
 pub mod Fetching
-pub mod Places
 pub mod Accepted
 pub mod Determined

@@ -23,14 +23,15 @@ use Rattle.page.specs.Contents.{registersOf, typesOf, countsOf, lensOf, content
 use Rattle.page.specs.Loaded.{Loaded}
 use Rattle.answer.proofs.Orders.{on-refused, on-value}
 use Rattle.page.proofs.Contained.{counts-long, loaded-ready}
-use Rattle.fetch.specs.declared.row.Row.{Row}
-use Rattle.fetch.specs.declared.span.Span.{Span}
-use Rattle.fetch.specs.declared.seek.SeatAt.{SeatAt}
-use Rattle.fetch.specs.Seek.{Seat, seatOf, seatAt}
-use Rattle.fetch.specs.Row.{rowOf}
-use Rattle.fetch.specs.Span.{spanOf, shapeFrom}
-use Rattle.fetch.specs.Fetch.{shapeAt, shapeOf, shapeIn, Rooms, inRooms, fetchOf}
-use Rattle.fetch.proofs.Spans.{span-shape}
+use Rattle.place.specs.declared.row.Row.{Row}
+use Rattle.place.specs.declared.span.Span.{Span}
+use Rattle.place.specs.declared.seek.SeatAt.{SeatAt}
+use Rattle.place.specs.Seek.{Seat, seatOf, seatAt}
+use Rattle.place.specs.Row.{rowOf}
+use Rattle.place.specs.Span.{spanOf, shapeFrom}
+use Rattle.place.specs.Nth.{shapeAt}
+use Rattle.fetch.specs.Fetch.{shapeOf, shapeIn, Rooms, inRooms, fetchOf}
+use Rattle.place.proofs.Spans.{span-shape}
 
 -- ---- the order of the service
 

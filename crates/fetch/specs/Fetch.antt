@@ -1,9 +1,9 @@
 -- The fetching of one shape: "Fetch: frame, 17, contents of its page, 2. Fetch gives register, type, part lengths and patterns. Each call that writes
 -- fills the start of its lent room, and the rest stays." Assumes nothing.
-use Prim.Native.Nat.{ℕ, zero, suc}
+use Prim.Native.Nat.{ℕ}
 use mathlib.Core.Path.{_≡_}
 use mathlib.Core.Bool.{Bool, _&&_}
-use mathlib.Core.List.{List, [], _∷_}
+use mathlib.Core.List.{List}
 use lib.ListN.{length}
 use lib.Dec.{leb}
 use Rattle.answer.specs.Table as table
@@ -13,13 +13,8 @@ use Rattle.shape.specs.Outline.{Outline, Shape}
 use Rattle.page.specs.Contents.{contentsOf}
 use Rattle.fetch.specs.declared.fetch.Fetched.{Fetched}
 use Rattle.fetch.specs.declared.fetch.Fetched.the-variants as fetched
-use Rattle.fetch.specs.Seek.{Seat, seatOf}
-
--- the n-th of some shapes, from 0
-unfoldable pub shapeAt : ℕ → List Shape → Out Shape
-shapeAt n [] = refused (because table.place)
-shapeAt zero (x ∷ l) = ok x
-shapeAt (suc n) (x ∷ l) = shapeAt n l
+use Rattle.place.specs.Nth.{shapeAt}
+use Rattle.place.specs.Seek.{Seat, seatOf}
 
 -- the shape of a seat: the contents of its page, and a refusal has that page
 unfoldable pub shapeOf : Seat → Out Shape

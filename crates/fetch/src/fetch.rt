@@ -1,12 +1,12 @@
 // The fetching of one shape: frame, 17, contents of its page, 2.
-ghost use Rattle.fetch.specs.Onward.{Seeks};
+ghost use Rattle.place.specs.Onward.{Seeks};
 ghost use Rattle.fetch.specs.Fetch.{roomsOf, fetchOf, Fetches};
 use crate::opened::opened;
-use crate::seek::Sought;
-use crate::seek::seek;
 use answer::Refusal;
 use frame::walk::Checked;
 use frame::walk::frame;
+use place::seek::Sought;
+use place::seek::seek;
 
 // A shape that was fetched: its register and type, and how many part lengths and vertices stand at the start of the rooms.
 pub struct Found {

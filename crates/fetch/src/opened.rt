@@ -5,22 +5,22 @@ ghost use lib.ListN.{length};
 ghost use Rattle.answer.specs.Outcome.{ok, on};
 ghost use Rattle.frame.specs.Ahead.{Within};
 ghost use Rattle.frame.specs.Step.{page, stepOf};
-ghost use Rattle.fetch.specs.Span.{shapeFrom};
+ghost use Rattle.place.specs.Span.{shapeFrom};
 ghost use Rattle.fetch.specs.Fetch.{shapeOf, roomsOf, inRooms, Fetches};
-ghost use Rattle.fetch.specs.Seek.{seatAt};
+ghost use Rattle.place.specs.Seek.{seatAt};
 use crate::copy::copy_lens;
 use crate::copy::copy_patterns;
 use crate::fetch::Fetched;
 use crate::fetch::Found;
-use crate::row::Row;
-use crate::row::row_at;
-use crate::seek::SeatAt;
-use crate::span::Span;
-use crate::span::span_of;
 use answer::Refusal;
 use answer::table::ROOM;
 use page::open::Opened;
 use page::open::open;
+use place::row::Row;
+use place::row::row_at;
+use place::seek::SeatAt;
+use place::span::Span;
+use place::span::span_of;
 
 // The shape with a row and a span of a page's lists, if there is room for it.
 fn put_shape(

@@ -23,9 +23,9 @@ use Rattle.search.specs.Search.{hitsOf, searchOf}
 use Rattle.search.specs.Listed.{listed}
 use Rattle.search.proofs.Listed.{rising-listed}
 use Rattle.search.proofs.Ordered.{hits-met, hits-ascend}
-use Rattle.fetch.specs.Seek.{Seat, seatOf}
+use Rattle.place.specs.Seek.{Seat, seatOf}
 use Rattle.fetch.specs.Fetch.{shapeOf, shapeIn, Rooms, roomy, inRooms, fetchOf}
-use Rattle.fetch.proofs.Nth.{nth-some, nth-drop}
+use Rattle.place.proofs.Nth.{nth-some, nth-drop}
 use Rattle.fetch.proofs.Opens.{place-seat, seat-refused, seat-contents}
 use Rattle.fetch.proofs.Fetching.{fetch-nth}
 use Rattle.fetch.proofs.Accepted.{seat-within, seat-inside}

@@ -32,8 +32,8 @@ use Rattle.search.proofs.Services.{said-count-one}
 use Rattle.fetch.specs.declared.fetch.Fetched.{Fetched}
 use Rattle.fetch.specs.Fetch.{Rooms, fetchOf, answerOf, listOf, Fetches}
 use Rattle.fetch.specs.declared.fetch.Fetched.the-variants as fetched-is
-use Rattle.fetch.specs.declared.row.Row.{Row}
-use Rattle.fetch.specs.Rows.{registersFrom, typesFrom}
+use Rattle.place.specs.declared.row.Row.{Row}
+use Rattle.place.specs.Rows.{registersFrom, typesFrom}
 use Rattle.fetch.proofs.Determined as fetched
 use Rattle.fetch.proofs.Determined.{fetch-determined}
 

@@ -41,9 +41,10 @@ use Rattle.writer.specs.State.{putAt, openRule, openOf, pagesRule, pageStepOf, 
 use Rattle.file.specs.File.{pagesOf}
 use Rattle.file.specs.Check.{checkOf}
 use Rattle.search.specs.Search.{pageHits, metOf, metIn, hitsOf, searchOf, countOf}
-use Rattle.fetch.specs.Seek.{seekIn, seatOf}
-use Rattle.fetch.specs.Fetch.{shapeAt, shapeOf, shapeIn, Rooms, inRooms, fetchOf}
-use Rattle.fetch.specs.Rows.{rowsAt, rowsIn, rowsOf}
+use Rattle.place.specs.Seek.{seekIn, seatOf}
+use Rattle.place.specs.Nth.{shapeAt}
+use Rattle.fetch.specs.Fetch.{shapeOf, shapeIn, Rooms, inRooms, fetchOf}
+use Rattle.place.specs.Rows.{rowsAt, rowsIn, rowsOf}
 use Rattle.promises.specs.Refusing.{Refuses}
 use Rattle.search.specs.Listed.{listed}
 use Rattle.promises.specs.Numbers as numbers

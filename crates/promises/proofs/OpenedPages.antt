@@ -22,8 +22,8 @@ use Rattle.page.specs.Contents.{contentsOf}
 use Rattle.file.specs.File.{pagesOf}
 use Rattle.search.specs.Search.{pageHits, metOf}
 use Rattle.search.proofs.Opened.{page-open}
-use Rattle.fetch.specs.Seek.{Seat, seekIn}
-use Rattle.fetch.proofs.Seeking.{seek-none, seek-here, seek-on}
+use Rattle.place.specs.Seek.{Seat, seekIn}
+use Rattle.place.proofs.Seeking.{seek-none, seek-here, seek-on}
 use Rattle.promises.specs.Refusing.{Refuses}
 use Rattle.promises.specs.Numbers as numbers
 use Rattle.promises.specs.Pages.{IsPage, Passes, Before, InContents, everyPage, metPages, PlacePage}

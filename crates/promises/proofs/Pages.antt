@@ -21,9 +21,9 @@ use Rattle.writer.specs.declared.Writer.{Writer}
 use Rattle.writer.specs.State.{openOf, pageStepOf, closeOf}
 use Rattle.file.specs.Check.{checkOf}
 use Rattle.search.specs.Search.{metIn, hitsOf, searchOf, countOf}
-use Rattle.fetch.specs.Seek.{Seat, seatOf}
+use Rattle.place.specs.Seek.{Seat, seatOf}
 use Rattle.fetch.specs.Fetch.{shapeOf, shapeIn, Rooms, inRooms, fetchOf}
-use Rattle.fetch.specs.Rows.{rowsIn, rowsOf}
+use Rattle.place.specs.Rows.{rowsIn, rowsOf}
 use Rattle.promises.specs.Refusing.{Refuses}
 use Rattle.search.specs.Listed.{listed}
 use Rattle.promises.specs.Numbers as numbers

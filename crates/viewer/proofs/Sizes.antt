@@ -21,13 +21,14 @@ use Rattle.frame.proofs.Ahead.{ahead-start, ahead-some}
 use Rattle.page.specs.Contents.{countsOf, lensOf, contentsOf}
 use Rattle.page.proofs.Vertices.{vertices-long}
 use Rattle.page.proofs.Contained.{contents-contained}
-use Rattle.fetch.specs.declared.row.Row.{Row}
-use Rattle.fetch.specs.declared.span.Span.{Span}
-use Rattle.fetch.specs.Seek.{Seat, seekIn, seatOf}
-use Rattle.fetch.specs.Row.{rowOf}
-use Rattle.fetch.specs.Span.{spanOf, shapeFrom}
-use Rattle.fetch.specs.Fetch.{shapeAt, shapeOf, shapeIn}
-use Rattle.fetch.proofs.Seeking.{seek-none, seek-here, seek-on, seek-inside}
+use Rattle.place.specs.declared.row.Row.{Row}
+use Rattle.place.specs.declared.span.Span.{Span}
+use Rattle.place.specs.Seek.{Seat, seekIn, seatOf}
+use Rattle.place.specs.Row.{rowOf}
+use Rattle.place.specs.Span.{spanOf, shapeFrom}
+use Rattle.place.specs.Nth.{shapeAt}
+use Rattle.fetch.specs.Fetch.{shapeOf, shapeIn}
+use Rattle.place.proofs.Seeking.{seek-none, seek-here, seek-on, seek-inside}
 use Rattle.fetch.proofs.Opens.{listed-shape}
 
 -- the first of the pages from a cursor on

@@ -1,7 +1,7 @@
 -- `fetch::fetch::fetch` seeks the place, and then opens its page. Assumes nothing.
 use Rattle.fetch.specs.Fetch.{roomsOf}
 use Rattle.fetch.proofs.Filling.{fetches-refused}
-use Rattle.fetch.proofs.Onwards.{sought-refused, sought-seat}
+use Rattle.place.proofs.Onwards.{sought-refused, sought-seat}
 use Rattle.fetch.proofs.Opens.{fetch-refused, fetch-seat}
 use borrow.Author.Needs.{needs}
 use Rattle.fetch.proofs.fetch.fetch.Statement.{statement}

@@ -2,7 +2,7 @@
 use native.Mathlib.Omega.{arith}
 use Rattle.frame.proofs.Walks.{frame-refusal-said}
 use Rattle.frame.proofs.Ahead.{begun-said}
-use Rattle.fetch.proofs.Onwards.{seat-refused, seeks-refused, onward-first}
+use Rattle.place.proofs.Onwards.{seat-refused, seeks-refused, onward-first}
 use borrow.Author.Needs.{needs}
 use Rattle.fetch.proofs.fetch.seat.Statement.{statement}
 use Rattle.fetch.proofs.fetch.seat.Tie as tie

@@ -7,7 +7,7 @@ use Rattle.frame.proofs.Found.{page-is}
 use Rattle.page.proofs.Opening.{limits-of, first-of, opened-refused}
 use Rattle.fetch.specs.Fetch.{roomsOf}
 use Rattle.fetch.proofs.Filling.{fetches-refused}
-use Rattle.fetch.proofs.Spans.{span-parts, span-vertices}
+use Rattle.place.proofs.Spans.{span-parts, span-vertices}
 use Rattle.fetch.proofs.Opens.{seat-bad, seat-page, index-within, loaded-spans, loaded-vertices, loaded-shape}
 use borrow.Author.Needs.{needs}
 use Rattle.fetch.proofs.opened.opened.Statement.{statement}
