@@ -103,8 +103,7 @@ enum-known-held : tie.Need-enum-known-held
 enum-known-held c = search needs
 
 cast-on-page : tie.Need-cast-on-page
-cast-on-page c =
-    record { fits = omega (arith, c .before .before .before .before .before .before .before .before .before .before .before .before .before .before .before .before .before .before .before .before .before .before .before .before .before .pre .0 .pages) }
+cast-on-page c = let w = c .before .before .before .before .before .before .before .before .before .before .before .before .before .before .before .before .before .before .before .before .before .before .before .before .before .pre .0 in record { fits = omega (arith, w .pages, w .shapes) }
 
 on-page-requires : tie.Need-on-page-requires
 on-page-requires c κs = search needs
