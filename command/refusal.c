@@ -20,7 +20,7 @@ static const struct sentence sentences[] = {
         "the query is not finite, or is reversed. Ask with finite numbers, the least x and y before the greatest: --window X0 Y0 X1 Y1."},
     [BOUNDARY_REFUSED_ROOM] = {NOWHERE, STATUS_WRONG, "the room for the answer is too small. That is a fault of this command: please report it."},
     [BOUNDARY_REFUSED_MANY] = {AFTER_PAGES, STATUS_REFUSED, "the file has more than 1,024 pages. Write its shapes to two files or more."},
-    [BOUNDARY_REFUSED_LENGTH] = {AFTER_PAGES, STATUS_REFUSED,
+    [BOUNDARY_REFUSED_LENGTHS] = {AFTER_PAGES, STATUS_REFUSED,
         "a length does not fit, or bytes follow the end. The file was cut short, added to or damaged on its way: take a fresh copy."},
     [BOUNDARY_REFUSED_KIND] = {AFTER_PAGES, STATUS_REFUSED,
         "a block is of the wrong kind, or the edition is not 1. See whether it is a boundary file at all, and of edition 1; if it is, take a fresh copy."},

@@ -47,7 +47,7 @@ enum boundary_refusal {
     BOUNDARY_REFUSED_ROOM = 2,     /* the lent room is smaller than the answer needs */
     BOUNDARY_REFUSED_MANY = 3,     /* a column call over 2,048 values (in a page this is 6); a 1,025th page; a writer's state with over 1,024 pages or
                                       over 262,144 shapes */
-    BOUNDARY_REFUSED_LENGTH = 4,   /* a length in the file does not fit, or bytes follow the end */
+    BOUNDARY_REFUSED_LENGTHS = 4,  /* a length in the file does not fit, or bytes follow the end */
     BOUNDARY_REFUSED_KIND = 5,     /* wrong kind or edition */
     BOUNDARY_REFUSED_COUNTS = 6,   /* a page's shapes, vertices or parts out of limits, slices of unequal length, or the counts at the end of the
                                       file are wrong */

@@ -242,9 +242,9 @@ static void checking(void)
 {
     write_sample();
     SAYS(check(SAMPLE), 4);
-    REFUSED(check(0), BOUNDARY_REFUSED_LENGTH);
-    EXPECT(refused(check(SAMPLE - 1), BOUNDARY_REFUSED_LENGTH, 2));
-    EXPECT(refused(check(SAMPLE + 1), BOUNDARY_REFUSED_LENGTH, 2));
+    REFUSED(check(0), BOUNDARY_REFUSED_LENGTHS);
+    EXPECT(refused(check(SAMPLE - 1), BOUNDARY_REFUSED_LENGTHS, 2));
+    EXPECT(refused(check(SAMPLE + 1), BOUNDARY_REFUSED_LENGTHS, 2));
     EXPECT(same());
     now.file[6] = 2;
     EXPECT(refused(check(SAMPLE), BOUNDARY_REFUSED_KIND, 0));

@@ -15,8 +15,8 @@ abbrev pub many : ℕ
 many = 3
 
 -- a length in the file doesn't fit, or bytes follow the end
-abbrev pub cut : ℕ
-cut = 4
+abbrev pub lengths : ℕ
+lengths = 4
 
 -- wrong kind or edition
 abbrev pub kind : ℕ
@@ -31,8 +31,8 @@ abbrev pub boxForm : ℕ
 boxForm = 7
 
 -- width over 64
-abbrev pub wide : ℕ
-wide = 8
+abbrev pub width : ℕ
+width = 8
 
 -- column has too few bits, or a whole byte too many
 abbrev pub bits : ℕ
@@ -63,8 +63,8 @@ abbrev pub turn : ℕ
 turn = 15
 
 -- page box differs in value from its vertices' box
-abbrev pub boxValue : ℕ
-boxValue = 16
+abbrev pub box : ℕ
+box = 16
 
 -- no shape at that place
 abbrev pub place : ℕ

@@ -8,7 +8,7 @@ pub const ROOM: u8 = 2;
 // 262,144 shapes; a program's file over 40,960 bytes.
 pub const MANY: u8 = 3;
 // A length in the file doesn't fit, or bytes follow the end.
-pub const LENGTH: u8 = 4;
+pub const LENGTHS: u8 = 4;
 // Wrong kind or edition.
 pub const KIND: u8 = 5;
 // g, v, p out of limits, slices of unequal length, or end counts wrong.

@@ -82,7 +82,7 @@ module _ (P : ℕ) (s : List ℕ) (n : ℕ) where
     decode-empty l = some ∙ unmet _ _ (lt-leb 1 (length s) (omega arith))
 
     module _ (hs : length s ≡ 0 → ⊥) where
-      pub decode-wide : P < getD s 0 0 → decodeOf P s n ≡ refused (because Table.wide)
+      pub decode-wide : P < getD s 0 0 → decodeOf P s n ≡ refused (because Table.width)
       unfolding someOf
       decode-wide l = some ∙ met _ _ (le-leb 1 (length s) (omega arith)) ∙ unmet _ _ (lt-leb _ _ l)
 
@@ -156,7 +156,7 @@ module _ (P : ℕ) (s : List ℕ) (n : ℕ) (d : List ℕ) where
     decodes-empty l = record { answer = rw (decode-empty P s n h0 l); scratch = scratch-empty h0 l }
 
     module _ (hs : length s ≡ 0 → ⊥) where
-      pub decodes-wide : P < getD s 0 0 → Decodes P s n d (Refused (because Table.wide)) d
+      pub decodes-wide : P < getD s 0 0 → Decodes P s n d (Refused (because Table.width)) d
       unfolding answered
       decodes-wide l = record { answer = rw (decode-wide P s n h0 hs l); scratch = scratch-wide h0 hs l }
 

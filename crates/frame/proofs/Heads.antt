@@ -6,7 +6,7 @@ use mathlib.Core.List.{List}
 use native.Mathlib.Omega.{arith}
 use borrow.Author.Tests.{le-leb, lt-leb, eqb-true, eq-eqb, ne-eqb}
 use lib.ListN.{length}
-use Rattle.answer.specs.Table.{cut, counts, boxForm}
+use Rattle.answer.specs.Table.{lengths, counts, boxForm}
 use Rattle.answer.specs.Refusal.{because}
 use Rattle.answer.specs.Outcome.{refused, ok}
 use Rattle.answer.proofs.Outcomes.{ok-inj, met, unmet, need-ok}
@@ -27,44 +27,44 @@ use Rattle.frame.proofs.Forms.{box-finite}
 -- ---- the ways through `headOf`
 
 module _ (edition : ℕ) (b : List ℕ) where
-  pub head-short : length b < 38 → headOf edition b ≡ refused (because cut)
+  pub head-short : length b < 38 → headOf edition b ≡ refused (because lengths)
   unfolding headOf
-  head-short h = unmet (because cut) _ (lt-leb 38 (length b) h)
+  head-short h = unmet (because lengths) _ (lt-leb 38 (length b) h)
 
   module _ (g v p : ℕ) (eg : g ≡ numberAt 2 b 0) (ev : v ≡ numberAt 2 b 2) (ep : p ≡ numberAt 2 b 4) (h : 38 ≤ length b) where
     pub head-counts : countsOk g v p ≡ false → headOf edition b ≡ refused (because counts)
     unfolding headOf
-    head-counts e = met (because cut) _ (le-leb 38 (length b) h) ∙ unmet (because counts) _ (rw (← eg, ← ev, ← ep) e)
+    head-counts e = met (because lengths) _ (le-leb 38 (length b) h) ∙ unmet (because counts) _ (rw (← eg, ← ev, ← ep) e)
 
     pub head-sized : countsOk g v p ≡ true → headOf edition b ≡ sizedHead edition b g v p
     unfolding headOf
     head-sized e =
-        met (because cut) _ (le-leb 38 (length b) h)
+        met (because lengths) _ (le-leb 38 (length b) h)
         ∙ met (because counts) _ (rw (← eg, ← ev, ← ep) e)
         ∙ rw (eg, ev, ep)
 
 -- ---- and through `sizedHead`
 
 module _ (edition : ℕ) (b : List ℕ) (g v p : ℕ) (l : Layout) (el : layoutOf edition g p ≡ l) where
-  pub sized-short : length b < l .columns → sizedHead edition b g v p ≡ refused (because cut)
+  pub sized-short : length b < l .columns → sizedHead edition b g v p ≡ refused (because lengths)
   unfolding sizedHead
-  sized-short h = rw el (unmet (because cut) _ (lt-leb (l .columns) (length b) h))
+  sized-short h = rw el (unmet (because lengths) _ (lt-leb (l .columns) (length b) h))
 
   module _ (h : l .columns ≤ length b) (cx cy : ℕ) (ex : numberAt 4 b (l .sizes) ≡ cx) (ey : numberAt 4 b (l .sizes + 4) ≡ cy) where
-    pub sized-length : (length b - l .columns ≡ cx + cy → ⊥) → sizedHead edition b g v p ≡ refused (because cut)
+    pub sized-length : (length b - l .columns ≡ cx + cy → ⊥) → sizedHead edition b g v p ≡ refused (because lengths)
     unfolding sizedHead
     sized-length n =
         rw (el, ex, ey)
-        (met (because cut) _ (le-leb (l .columns) (length b) h)
-        ∙ unmet (because cut) _ (ne-eqb (length b) (l .columns + cx + cy) (λ q. n (omega arith))))
+        (met (because lengths) _ (le-leb (l .columns) (length b) h)
+        ∙ unmet (because lengths) _ (ne-eqb (length b) (l .columns + cx + cy) (λ q. n (omega arith))))
 
     module _ (e : length b ≡ l .columns + cx + cy) where
       pub sized-box : boxOk v (boundsAt b 6) ≡ false → sizedHead edition b g v p ≡ refused (because boxForm)
       unfolding sizedHead
       sized-box f =
           rw (el, ex, ey)
-          (met (because cut) _ (le-leb (l .columns) (length b) h)
-          ∙ met (because cut) _ (eq-eqb (length b) (l .columns + cx + cy) e)
+          (met (because lengths) _ (le-leb (l .columns) (length b) h)
+          ∙ met (because lengths) _ (eq-eqb (length b) (l .columns + cx + cy) e)
           ∙ unmet (because boxForm) _ f)
 
       pub sized-good : (box : Box) → boxOk v (boundsAt b 6) ≡ true → floatsOf (boundsAt b 6) ≡ box
@@ -72,8 +72,8 @@ module _ (edition : ℕ) (b : List ℕ) (g v p : ℕ) (l : Layout) (el : layoutO
       unfolding sizedHead
       sized-good box f eb =
           rw (el, ex, ey, eb)
-          (met (because cut) _ (le-leb (l .columns) (length b) h)
-          ∙ met (because cut) _ (eq-eqb (length b) (l .columns + cx + cy) e)
+          (met (because lengths) _ (le-leb (l .columns) (length b) h)
+          ∙ met (because lengths) _ (eq-eqb (length b) (l .columns + cx + cy) e)
           ∙ met (because boxForm) _ f)
 
 -- ---- a head that was read

@@ -8,7 +8,7 @@ use native.Mathlib.Omega.{arith}
 use borrow.Author.Tests.{lt-ltb, le-ltb, eq-eqb, ne-eqb}
 use lib.ListN.{length, take, drop}
 use Rattle.answer.specs.declared.Refusal.{Refusal}
-use Rattle.answer.specs.Table.{many, cut, kind, counts}
+use Rattle.answer.specs.Table.{many, lengths, kind, counts}
 use Rattle.answer.specs.Refusal.{because}
 use Rattle.answer.specs.Outcome.{Out, refused, ok, on, inPage}
 use Rattle.answer.specs.Rule.{passed}
@@ -58,36 +58,36 @@ part-head edition s body len = ap (λ (n : ℕ). headOf edition (take n (drop bo
 -- ---- the end block
 
 module _ (s : List ℕ) (c : Cursor) (b : Block) where
-  pub end-length : (b .len ≡ 8 → ⊥) → endStep s c b ≡ refused (because cut)
+  pub end-length : (b .len ≡ 8 → ⊥) → endStep s c b ≡ refused (because lengths)
   unfolding endStep
-  end-length n = unmet (because cut) _ (ne-eqb (b .len) 8 n)
+  end-length n = unmet (because lengths) _ (ne-eqb (b .len) 8 n)
 
   module _ (l : b .len ≡ 8) (x : ℕ) (ex : x ≡ numberAt 4 s (b .body)) where
     pub end-pages : (x ≡ c .pages → ⊥) → endStep s c b ≡ refused (because counts)
     unfolding endStep
-    end-pages n = met (because cut) _ (eq-eqb (b .len) 8 l) ∙ unmet (because counts) _ (rw (← ex, ne-eqb x (c .pages) n))
+    end-pages n = met (because lengths) _ (eq-eqb (b .len) 8 l) ∙ unmet (because counts) _ (rw (← ex, ne-eqb x (c .pages) n))
 
     module _ (px : x ≡ c .pages) (y : ℕ) (ey : y ≡ numberAt 4 s (b .body + 4)) where
       pub end-shapes : (y ≡ c .shapes → ⊥) → endStep s c b ≡ refused (because counts)
       unfolding endStep
       end-shapes n =
-          met (because cut) _ (eq-eqb (b .len) 8 l)
+          met (because lengths) _ (eq-eqb (b .len) 8 l)
           ∙ unmet (because counts) _ (rw (← ex, ← ey, eq-eqb x (c .pages) px, ne-eqb y (c .shapes) n))
 
       module _ (py : y ≡ c .shapes) where
-        pub end-after : (b .body + 8 ≡ length s → ⊥) → endStep s c b ≡ refused (because cut)
+        pub end-after : (b .body + 8 ≡ length s → ⊥) → endStep s c b ≡ refused (because lengths)
         unfolding endStep
         end-after n =
-            met (because cut) _ (eq-eqb (b .len) 8 l)
+            met (because lengths) _ (eq-eqb (b .len) 8 l)
             ∙ met (because counts) _ (rw (← ex, ← ey, eq-eqb x (c .pages) px, eq-eqb y (c .shapes) py))
-            ∙ unmet (because cut) _ (ne-eqb (b .body + 8) (length s) n)
+            ∙ unmet (because lengths) _ (ne-eqb (b .body + 8) (length s) n)
 
         pub end-good : b .body + 8 ≡ length s → endStep s c b ≡ ok end
         unfolding endStep
         end-good n =
-            met (because cut) _ (eq-eqb (b .len) 8 l)
+            met (because lengths) _ (eq-eqb (b .len) 8 l)
             ∙ met (because counts) _ (rw (← ex, ← ey, eq-eqb x (c .pages) px, eq-eqb y (c .shapes) py))
-            ∙ met (because cut) _ (eq-eqb (b .body + 8) (length s) n)
+            ∙ met (because lengths) _ (eq-eqb (b .body + 8) (length s) n)
 
 -- ---- by its kind
 
@@ -119,7 +119,7 @@ module _ (s : List ℕ) (at : ℕ) (r : BlockRead) where
 -- ---- a step
 
 module _ (s : List ℕ) (c : Cursor) where
-  pub step-absent : presentAt s (c .at) ≡ false → stepOf s c ≡ inPage (c .pages) (refused (because cut))
+  pub step-absent : presentAt s (c .at) ≡ false → stepOf s c ≡ inPage (c .pages) (refused (because lengths))
   unfolding stepOf on
   step-absent e = rw (block-absent s (c .at) e)
 
@@ -144,20 +144,20 @@ module _ (s : List ℕ) (b : Block) where
   first-kind n = unmet (because kind) _ (ne-eqb (b .kind) 1 n)
 
   module _ (k : b .kind ≡ 1) where
-    pub first-length : (b .len ≡ 2 → ⊥) → firstStep s b ≡ refused (because cut)
+    pub first-length : (b .len ≡ 2 → ⊥) → firstStep s b ≡ refused (because lengths)
     unfolding firstStep
-    first-length n = met (because kind) _ (eq-eqb (b .kind) 1 k) ∙ unmet (because cut) _ (ne-eqb (b .len) 2 n)
+    first-length n = met (because kind) _ (eq-eqb (b .kind) 1 k) ∙ unmet (because lengths) _ (ne-eqb (b .len) 2 n)
 
     module _ (l : b .len ≡ 2) (x : ℕ) (ex : numberAt 2 s (b .body) ≡ x) where
       pub first-edition : (x ≡ 1 → ⊥) → firstStep s b ≡ refused (because kind)
       unfolding firstStep
       first-edition n =
-          rw ex (met (because kind) _ (eq-eqb (b .kind) 1 k) ∙ met (because cut) _ (eq-eqb (b .len) 2 l) ∙ unmet (because kind) _ (ne-eqb x 1 n))
+          rw ex (met (because kind) _ (eq-eqb (b .kind) 1 k) ∙ met (because lengths) _ (eq-eqb (b .len) 2 l) ∙ unmet (because kind) _ (ne-eqb x 1 n))
 
       pub first-good : x ≡ 1 → firstStep s b ≡ ok (record { edition = x; at = b .body + 2; pages = 0; shapes = 0 })
       unfolding firstStep
       first-good n =
-          rw ex (met (because kind) _ (eq-eqb (b .kind) 1 k) ∙ met (because cut) _ (eq-eqb (b .len) 2 l) ∙ met (because kind) _ (eq-eqb x 1 n))
+          rw ex (met (because kind) _ (eq-eqb (b .kind) 1 k) ∙ met (because lengths) _ (eq-eqb (b .len) 2 l) ∙ met (because kind) _ (eq-eqb x 1 n))
 
 module _ (s : List ℕ) where
   pub first-refused : (w : Refusal) → blockAt s 0 ≡ refused w → firstOf s ≡ refused w

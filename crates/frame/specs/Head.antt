@@ -5,7 +5,7 @@ use mathlib.Core.Bool.{Bool, _&&_, _||_, cond}
 use mathlib.Core.List.{List}
 use lib.ListN.{length}
 use lib.Dec.{leb, eqb}
-use Rattle.answer.specs.Table.{cut, counts, boxForm}
+use Rattle.answer.specs.Table.{lengths, counts, boxForm}
 use Rattle.answer.specs.Refusal.{because}
 use Rattle.answer.specs.Outcome.{Out, ok, need}
 use Rattle.le.specs.Number.{numberAt}
@@ -30,17 +30,17 @@ boxOk v p = cond (eqb v 0) (allZero p) (goodForm p)
 unfoldable pub sizedHead : ℕ → List ℕ → ℕ → ℕ → ℕ → Out Head
 sizedHead edition b g v p =
     let l = layoutOf edition g p in
-    need (leb (l .columns) (length b)) (because cut)
+    need (leb (l .columns) (length b)) (because lengths)
     (let cx = numberAt 4 b (l .sizes) in
     let cy = numberAt 4 b (l .sizes + 4) in
-    need (eqb (length b) (l .columns + cx + cy)) (because cut)
+    need (eqb (length b) (l .columns + cx + cy)) (because lengths)
     (need (boxOk v (boundsAt b 6)) (because boxForm)
     (ok (record { g = g; v = v; p = p; bounds = floatsOf (boundsAt b 6); cx = cx; cy = cy; layout = l }))))
 
 -- the head of a body
 unfoldable pub headOf : ℕ → List ℕ → Out Head
 headOf edition b =
-    need (leb 38 (length b)) (because cut)
+    need (leb 38 (length b)) (because lengths)
     (let g = numberAt 2 b 0 in
     let v = numberAt 2 b 2 in
     let p = numberAt 2 b 4 in

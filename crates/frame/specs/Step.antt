@@ -6,7 +6,7 @@ use mathlib.Core.Bool.{Bool, _&&_, cond}
 use mathlib.Core.List.{List}
 use lib.ListN.{length, take, drop}
 use lib.Dec.{ltb, eqb}
-use Rattle.answer.specs.Table.{many, cut, kind, counts}
+use Rattle.answer.specs.Table.{many, lengths, kind, counts}
 use Rattle.answer.specs.Refusal.{because}
 use Rattle.answer.specs.Outcome.{Out, refused, ok, need, on, inPage}
 use Rattle.le.specs.Number.{numberAt}
@@ -32,7 +32,7 @@ firstCursor edition = record { edition = edition; at = 8; pages = 0; shapes = 0 
 unfoldable pub firstStep : List ℕ → Block → Out Cursor
 firstStep s b =
     need (eqb (b .kind) 1) (because kind)
-    (need (eqb (b .len) 2) (because cut)
+    (need (eqb (b .len) 2) (because lengths)
     (let edition = numberAt 2 s (b .body) in
     need (eqb edition 1) (because kind)
     (ok (record { edition = edition; at = b .body + 2; pages = 0; shapes = 0 }))))
@@ -62,9 +62,9 @@ pageStep s c b =
 -- kind 3, the end: length 8, both counts, nothing after
 unfoldable pub endStep : List ℕ → Cursor → Block → Out Turn
 endStep s c b =
-    need (eqb (b .len) 8) (because cut)
+    need (eqb (b .len) 8) (because lengths)
     (need (eqb (numberAt 4 s (b .body)) (c .pages) && eqb (numberAt 4 s (b .body + 4)) (c .shapes)) (because counts)
-    (need (eqb (b .body + 8) (length s)) (because cut)
+    (need (eqb (b .body + 8) (length s)) (because lengths)
     (ok end)))
 
 -- by its kind

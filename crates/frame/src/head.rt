@@ -14,7 +14,7 @@ use answer::Refusal;
 use answer::Verdict;
 use answer::table::BOX_FORM;
 use answer::table::COUNTS;
-use answer::table::LENGTH;
+use answer::table::LENGTHS;
 use extent::boxes::Box;
 use extent::boxes::good_patterns;
 use extent::rank::float_of;
@@ -93,12 +93,12 @@ fn sized_rules(edition: usize, b: &[u8], g: usize, v: usize, p: usize) -> Verdic
     let sizes = layout.sizes;
     let columns = layout.columns;
     if b.len() < columns {
-        return Verdict::Refused(Refusal::because(LENGTH));
+        return Verdict::Refused(Refusal::because(LENGTHS));
     }
     let cx = u32_at(b, sizes);
     let cy = u32_at(b, sizes + 4);
     if b.len() - columns != cx + cy {
-        return Verdict::Refused(Refusal::because(LENGTH));
+        return Verdict::Refused(Refusal::because(LENGTHS));
     }
     Verdict::of(box_ok(v, b), BOX_FORM)
 }
@@ -108,7 +108,7 @@ pub fn head_rules(edition: usize, b: &[u8]) -> Verdict
     ensures { λ r. ⌜ judged r ≡ passed (headOf edition (now (b .entry))) ⌝ }
 {
     if b.len() < 38 {
-        return Verdict::Refused(Refusal::because(LENGTH));
+        return Verdict::Refused(Refusal::because(LENGTHS));
     }
     let g = u16_at(b, 0);
     let v = u16_at(b, 2);

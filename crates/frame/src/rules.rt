@@ -10,7 +10,7 @@ use answer::Refusal;
 use answer::Verdict;
 use answer::table::COUNTS;
 use answer::table::KIND;
-use answer::table::LENGTH;
+use answer::table::LENGTHS;
 use answer::table::MANY;
 use le::block::Block;
 use le::block::block_in;
@@ -42,7 +42,7 @@ fn end_rules(s: &[u8], c: Cursor, b: Block) -> Verdict
     let pages = c.pages;
     let shapes = c.shapes;
     if len != 8 {
-        return Verdict::Refused(Refusal::because(LENGTH));
+        return Verdict::Refused(Refusal::because(LENGTHS));
     }
     if u32_at(s, body) != pages {
         return Verdict::Refused(Refusal::because(COUNTS));
@@ -50,7 +50,7 @@ fn end_rules(s: &[u8], c: Cursor, b: Block) -> Verdict
     if u32_at(s, body + 4) != shapes {
         return Verdict::Refused(Refusal::because(COUNTS));
     }
-    Verdict::of(body + 8 == s.len(), LENGTH)
+    Verdict::of(body + 8 == s.len(), LENGTHS)
 }
 
 // A block that is present, by its kind.
@@ -78,5 +78,5 @@ pub(crate) fn block_rules(s: &[u8], c: Cursor) -> Verdict
     if present(s, at) {
         return kind_rules(s, c, block_in(s, at)).on_page(page);
     }
-    Verdict::Refused(Refusal::because(LENGTH)).on_page(page)
+    Verdict::Refused(Refusal::because(LENGTHS)).on_page(page)
 }

@@ -56,7 +56,7 @@ fn first_step(s: &[u8], b: Block) -> FirstRead
         return refused(answer::table::KIND);
     }
     if len != 2 {
-        return refused(answer::table::LENGTH);
+        return refused(answer::table::LENGTHS);
     }
     let edition = u16_at(s, body);
     if edition != 1 {

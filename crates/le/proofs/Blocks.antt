@@ -8,7 +8,7 @@ use borrow.Author.Tests.{leb-true, le-leb, lt-leb}
 use lib.ListN.{length, length-append}
 use lib.Seq.{sets}
 use lib.Dec.{leb}
-use Rattle.answer.specs.Table.{cut}
+use Rattle.answer.specs.Table.{lengths}
 use Rattle.answer.specs.Refusal.{because}
 use Rattle.answer.specs.Outcome.{refused, ok}
 use Rattle.answer.proofs.Outcomes.{never, ok-inj, refused-inj, met, unmet, need-ok}
@@ -45,14 +45,14 @@ module _ (s : List ℕ) (at : ℕ) where
 
   -- ---- the ways through
 
-  pub block-absent : presentAt s at ≡ false → blockAt s at ≡ refused (because cut)
+  pub block-absent : presentAt s at ≡ false → blockAt s at ≡ refused (because lengths)
   unfolding blockAt
-  block-absent e = unmet (because cut) _ e
+  block-absent e = unmet (because lengths) _ e
 
   pub block-present : presentAt s at ≡ true → (k n : ℕ) → k ≡ numberAt 2 s (at + 4) → n ≡ numberAt 4 s at
       → blockAt s at ≡ ok (record { kind = k; body = at + 6; len = n })
   unfolding blockAt
-  block-present e k n ek en = met (because cut) _ e ∙ rw (ek, en)
+  block-present e k n ek en = met (because lengths) _ e ∙ rw (ek, en)
 
   pub block-found : (k n : ℕ) → k ≡ numberAt 2 s (at + 4) → n ≡ numberAt 4 s at → at + 6 + n ≤ length s
       → blockAt s at ≡ ok (record { kind = k; body = at + 6; len = n })

@@ -4,7 +4,7 @@ use mathlib.Core.Bool.{Bool, _&&_}
 use mathlib.Core.List.{List, _++_}
 use lib.ListN.{length}
 use lib.Dec.{leb}
-use Rattle.answer.specs.Table.{cut}
+use Rattle.answer.specs.Table.{lengths}
 use Rattle.answer.specs.Refusal.{because}
 use Rattle.answer.specs.Outcome.{Out, refused, ok, need}
 use Rattle.le.specs.declared.block.Block.{Block}
@@ -19,7 +19,7 @@ presentAt s at = leb (at + 6) (length s) && leb (at + 6 + numberAt 4 s at) (leng
 -- the block whose head stands at a place
 unfoldable pub blockAt : List ℕ → ℕ → Out Block
 blockAt s at =
-    need (presentAt s at) (because cut)
+    need (presentAt s at) (because lengths)
     (ok (record { kind = numberAt 2 s (at + 4); body = at + 6; len = numberAt 4 s at }))
 
 -- what the code's answer says

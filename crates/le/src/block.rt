@@ -4,7 +4,7 @@ ghost use mathlib.Core.Bool.{true};
 ghost use Prim.Native.Nat.{_+_, _≤_};
 ghost use lib.ListN.{length};
 ghost use lib.Seq.{sets};
-ghost use Rattle.answer.specs.Table.{cut};
+ghost use Rattle.answer.specs.Table.{lengths};
 ghost use Rattle.answer.specs.Refusal.{because};
 ghost use Rattle.answer.specs.Outcome.{refused, ok};
 ghost use Rattle.le.specs.Block.{presentAt, blockAt, saidBlock, blockHead};
@@ -13,7 +13,7 @@ use crate::number::put_u32;
 use crate::number::u16_at;
 use crate::number::u32_at;
 use answer::Refusal;
-use answer::table::LENGTH;
+use answer::table::LENGTHS;
 
 // A block: its kind, the place of its body's first byte, and the body's length.
 pub struct Block {
@@ -30,9 +30,9 @@ pub enum BlockRead {
 
 // A length doesn't fit.
 fn short() -> BlockRead
-    ensures { λ r. ⌜ saidBlock r ≡ refused (because cut) ⌝ }
+    ensures { λ r. ⌜ saidBlock r ≡ refused (because lengths) ⌝ }
 {
-    BlockRead::Refused(Refusal::because(LENGTH))
+    BlockRead::Refused(Refusal::because(LENGTHS))
 }
 
 // Whether a block stands at a place, any place, with all of its body.

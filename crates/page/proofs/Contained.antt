@@ -46,7 +46,7 @@ contents-contained h b ss e =
       ys = t .ys;
       vertices = v .1;
       parts = parts-passed (typesOf h b) (countsOf h b) (lensOf h b) (h .v) (p .0) (p .1);
-      box = rule-ok (boxHolds (patterns (h .bounds)) (t .xs) (t .ys)) table.boxValue (x .0) (x .1);
+      box = rule-ok (boxHolds (patterns (h .bounds)) (t .xs) (t .ys)) table.box (x .0) (x .1);
       shapes = ok-inj (x .2);
     }
 

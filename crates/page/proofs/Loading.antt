@@ -138,7 +138,7 @@ module _ (h : Head) (b counts lens xs ys types : List ℕ) (v : ℕ) (ec : count
             parts = rw (← et, ← ev) loads-holds;
             finite-x = f .0;
             finite-y = f .1;
-            box = rule-ok (boxHolds (patterns (h .bounds)) xs ys) table.boxValue tt (o .2);
+            box = rule-ok (boxHolds (patterns (h .bounds)) xs ys) table.box tt (o .2);
             shapes = contents ∙ on-value rules _ tt e ∙ rw (← et);
           }
 

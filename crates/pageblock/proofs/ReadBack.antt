@@ -218,7 +218,7 @@ module _ (i : Handed) (t : Typed i) (q : Passed i) where
 
   box-passes : boxRule (patterns (headFor i .bounds)) (i .xs) (i .ys) ≡ ok tt
   unfolding boxRule boxHolds
-  box-passes = rule-holds _ table.boxValue (rw head-box (either-true (not (ltb 0 (length (i .xs)))) _ (same-box-refl (boxOf (i .xs) (i .ys)))))
+  box-passes = rule-holds _ table.box (rw head-box (either-true (not (ltb 0 (length (i .xs)))) _ (same-box-refl (boxOf (i .xs) (i .ys)))))
     where
       either-true : (a b : Bool) → b ≡ true → (a || b) ≡ true
       either-true true b e = refl

@@ -74,6 +74,6 @@ workedRows b =
     ∷ takes (0 ∷ 2 ^ 63 ∷ []) 0
     ∷ reads (3 ∷ 00x8 ++ (2 ∷ [])) 2 (ok (0 ∷ 1 ∷ []))
     ∷ reads (2 ∷ 00x8 ++ (6 ∷ [])) 2 (refused (because Table.fill))
-    ∷ reads (0x41 ∷ 00x8 ++ (0 ∷ [])) 2 (refused (because Table.wide))
+    ∷ reads (0x41 ∷ 00x8 ++ (0 ∷ [])) 2 (refused (because Table.width))
     ∷ reads (2 ∷ 00x8) 2 (refused (because Table.bits))
     ∷ []

@@ -53,7 +53,7 @@ module _ (P : ℕ) (s : List ℕ) (n : ℕ) where
     first-empty l = simp (ne-eqb _ _ h0) (unmet _ _ (lt-leb 1 (length s) (omega arith)))
 
     module _ (hs : length s ≡ 0 → ⊥) where
-      pub first-wide : P < getD s 0 0 → firstCall P s n ≡ refused (because Table.wide)
+      pub first-wide : P < getD s 0 0 → firstCall P s n ≡ refused (because Table.width)
       unfolding firstCall
       first-wide l = simp (ne-eqb _ _ h0) (met _ _ (le-leb 1 (length s) (omega arith)) ∙ unmet _ _ (lt-leb _ _ l))
 
@@ -75,7 +75,7 @@ module _ (P : ℕ) (s : List ℕ) (n : ℕ) (p : Position) where
   abbrev next-value : ℕ
   next-value = valueAt P (number s) (p .width) (p .at) (p .last)
 
-  pub later-wide : P < p .width → laterCall P s n p ≡ refused (because Table.wide)
+  pub later-wide : P < p .width → laterCall P s n p ≡ refused (because Table.width)
   unfolding laterCall
   later-wide h = unmet _ _ (lt-leb _ _ h)
 

@@ -166,7 +166,7 @@ module _ (P : ℕ) (s : List ℕ) (m : ℕ) (hn : suc m ≤ 2048) (hP : P ≤ 64
 
   module _ (hs : length s ≡ 0 → ⊥) where
     too-wide : P < getD s 0 0 → Runs P s (suc m) (runFrom P s (suc m) (suc (suc m)) p)
-    too-wide l = refused-run P s (suc m) p Table.wide (fresh ∙ first-wide P s (suc m) h0 hs l) (reading ∙ decode-wide P s (suc m) h0 hs l)
+    too-wide l = refused-run P s (suc m) p Table.width (fresh ∙ first-wide P s (suc m) h0 hs l) (reading ∙ decode-wide P s (suc m) h0 hs l)
 
     module _ (hw : getD s 0 0 ≤ P) where
       abbrev w : ℕ

@@ -29,7 +29,7 @@ firstCall P s n =
     let v = field (number s) 8 P in
     cond (eqb n 0) (closed s 0 (ok end))
     (need (leb 1 (length s)) (because Table.bits)
-    (need (leb w P) (because Table.wide)
+    (need (leb w P) (because Table.width)
     (need (leb (8 + P) (8 * length s)) (because Table.bits)
     (ok (value v (position (8 + P) 1 w v))))))
 
@@ -38,7 +38,7 @@ unfoldable pub laterCall : ℕ → List ℕ → ℕ → Position → Out ValueOr
 laterCall P s n p =
     let next = p .at + sizeAt P (number s) (p .width) (p .at) in
     let v = valueAt P (number s) (p .width) (p .at) (p .last) in
-    need (leb (p .width) P) (because Table.wide)
+    need (leb (p .width) P) (because Table.width)
     (need (leb (p .at) (8 * length s)) (because Table.bits)
     (cond (leb n (p .given)) (closed s (p .at) (ok end))
     (need (leb next (8 * length s)) (because Table.bits)

@@ -37,6 +37,6 @@ module _ (xs ys : List ℕ) (f : Form) (k : ValueForm xs ys f) where
   own-box b e = (rw e at k) .1
 
 -- 16: the page's box is compared with that
-pub box-rule-is : (p : Bounds) (xs ys : List ℕ) (b : Box) → ValueBox xs ys b → rule (not (ltb 0 (length xs)) || sameBox p (patterns b)) table.boxValue ≡ boxRule p xs ys
+pub box-rule-is : (p : Bounds) (xs ys : List ℕ) (b : Box) → ValueBox xs ys b → rule (not (ltb 0 (length xs)) || sameBox p (patterns b)) table.box ≡ boxRule p xs ys
 unfolding boxRule boxHolds
-box-rule-is p xs ys b v = ap (λ (t : Bool). rule (not (ltb 0 (length xs)) || t) table.boxValue) (same-same p (patterns b) (boxOf xs ys) (v .in-value))
+box-rule-is p xs ys b v = ap (λ (t : Bool). rule (not (ltb 0 (length xs)) || t) table.box) (same-same p (patterns b) (boxOf xs ys) (v .in-value))

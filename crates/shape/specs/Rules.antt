@@ -95,7 +95,7 @@ boxHolds p xs ys = not (ltb 0 (length xs)) || sameBox p (boxOf xs ys)
 
 -- 16, by the page's box and its vertices
 unfoldable pub boxRule : Bounds → List ℕ → List ℕ → Out (Unit {0})
-boxRule p xs ys = rule (boxHolds p xs ys) table.boxValue
+boxRule p xs ys = rule (boxHolds p xs ys) table.box
 
 -- ---- in order
 

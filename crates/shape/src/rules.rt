@@ -123,7 +123,7 @@ fn box_holds(b: Box, own: Box, v: usize) -> bool
 // 16: the page's box is in value its v vertices' own. Rules 7 and 12 have passed.
 pub fn box_rule(b: Box, own: Box, v: usize) -> Verdict
     requires { ⌜ FiniteBox (patterns b) × FiniteBox (patterns own) ⌝ }
-    ensures { λ r. ⌜ judged r ≡ rule (not (ltb 0 v) || sameBox (patterns b) (patterns own)) table.boxValue ⌝ }
+    ensures { λ r. ⌜ judged r ≡ rule (not (ltb 0 v) || sameBox (patterns b) (patterns own)) table.box ⌝ }
 {
     Verdict::of(box_holds(b, own, v), BOX)
 }

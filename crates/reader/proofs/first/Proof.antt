@@ -40,7 +40,7 @@ returns-3 c =
     let if1 = c .before .before .before .before .before .if1 in
     let if2 = c .before .before .before .before .if2 in
     let a = c .before .before .before .before .before .before .before .args in
-    c .refused2 .ensures ∙ said-refused (a .p) Table.wide (first-wide 64 (a .s .now) (a .n) (if1 .left) (if2 .left) (omega (arith, c .before .before .wide .ensures, c .before .if3 .taken)))
+    c .refused2 .ensures ∙ said-refused (a .p) Table.width (first-wide 64 (a .s .now) (a .n) (if1 .left) (if2 .left) (omega (arith, c .before .before .wide .ensures, c .before .if3 .taken)))
 
 refused-requires-3 : tie.Need-refused-requires-3
 refused-requires-3 c κs = search needs

@@ -18,7 +18,7 @@ refused-requires c κs = search needs
 returns : tie.Need-returns
 returns c =
     let st = c .before .before .before in
-    c .refused .ensures ∙ said-refused (st .args .p) Table.wide (later-wide 64 (st .args .s .now) (st .args .n) (st .args .p) (c .before .if1 .taken))
+    c .refused .ensures ∙ said-refused (st .args .p) Table.width (later-wide 64 (st .args .s .now) (st .args .n) (st .args .p) (c .before .if1 .taken))
 
 whole-bytes-requires : tie.Need-whole-bytes-requires
 whole-bytes-requires c κs = search needs

@@ -2,7 +2,7 @@
 use mathlib.Core.Path.{sym, ap, _∙_}
 use native.Mathlib.Omega.{arith}
 use borrow.Author.Tests.{not-true, not-false}
-use Rattle.answer.specs.Table.{cut, counts}
+use Rattle.answer.specs.Table.{lengths, counts}
 use Rattle.answer.specs.Rule.{passed}
 use Rattle.answer.proofs.Rules.{passed-because}
 use Rattle.frame.proofs.Counts.{counts-limits}
@@ -15,7 +15,7 @@ because-requires : tie.Need-because-requires
 because-requires c κs = search needs
 
 returns : tie.Need-returns
-returns c = passed-because cut _ (c .because .ensures) (head-short _ _ (c .before .if1 .taken))
+returns c = passed-because lengths _ (c .because .ensures) (head-short _ _ (c .before .if1 .taken))
 
 u16-at-requires : tie.Need-u16-at-requires
 u16-at-requires c κs = search needs

@@ -2,7 +2,7 @@
 use Prim.Native.Nat.{_+_}
 use mathlib.Core.Path.{_≡_, refl, sym, _∙_}
 use native.Mathlib.Omega.{arith}
-use Rattle.answer.specs.Table.{cut, boxForm}
+use Rattle.answer.specs.Table.{lengths, boxForm}
 use Rattle.answer.proofs.Rules.{passed-because, rule-passed}
 use Rattle.frame.proofs.Layouts.{columns-at}
 use Rattle.frame.proofs.Heads.{sized-short, sized-length, sized-box, sized-good}
@@ -21,7 +21,7 @@ because-requires : tie.Need-because-requires
 because-requires c κs = search needs
 
 returns : tie.Need-returns
-returns c = passed-because cut _ (c .because .ensures) (sized-short _ _ _ _ _ _ (sym (c .before .before .layout-of .ensures)) (c .before .if1 .taken))
+returns c = passed-because lengths _ (c .because .ensures) (sized-short _ _ _ _ _ _ (sym (c .before .before .layout-of .ensures)) (c .before .if1 .taken))
 
 u32-at-requires : tie.Need-u32-at-requires
 u32-at-requires c κs = omega (arith, behind (c .before))
@@ -44,7 +44,7 @@ because-requires-2 c κs = search needs
 returns-2 : tie.Need-returns-2
 returns-2 c =
     let d = c .before .before in
-    passed-because cut _ (c .because2 .ensures)
+    passed-because lengths _ (c .because2 .ensures)
     (sized-length _ _ _ _ _ _ (sym (d .before .before .before .layout-of .ensures)) (d .before .before .if1 .left) _ _
     (sym (d .before .u32-at .ensures .0)) (sym (d .u32-at2 .ensures .0)) (c .before .if2 .taken))
 

@@ -1,7 +1,7 @@
 -- `block_rules` goes by the kind where the block is present, with the cursor's number of pages in every refusal. Assumes nothing.
 use mathlib.Core.Path.{refl, sym, ap, _∙_}
 use Rattle.answer.specs.Outcome.{inPage}
-use Rattle.answer.specs.Table.{cut}
+use Rattle.answer.specs.Table.{lengths}
 use Rattle.answer.specs.Rule.{passed}
 use Rattle.answer.proofs.Rules.{passed-because, passed-in-page}
 use Rattle.le.proofs.Blocks.{block-fits}
@@ -43,7 +43,7 @@ returns-2 : tie.Need-returns-2
 returns-2 c =
     let k = c .before .before .before .before .before .before .args .c .pages in
     c .on-page2 .ensures
-    ∙ ap (inPage k) (passed-because cut _ (c .before .because .ensures) refl)
+    ∙ ap (inPage k) (passed-because lengths _ (c .before .because .ensures) refl)
     ∙ sym (passed-in-page k _)
     ∙ ap passed (sym (step-absent _ _ (sym (c .before .before .before .present .ensures) ∙ c .before .before .if1 .left)))
 

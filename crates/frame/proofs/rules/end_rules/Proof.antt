@@ -1,7 +1,7 @@
 -- `end_rules` makes the tests of `endStep`, one after the other. Assumes nothing.
 use mathlib.Core.Path.{_∙_}
 use borrow.Author.Tests.{eqb-true, eqb-false}
-use Rattle.answer.specs.Table.{cut, counts}
+use Rattle.answer.specs.Table.{lengths, counts}
 use Rattle.answer.proofs.Rules.{passed-because, rule-passed}
 use Rattle.frame.proofs.Steps.{end-length, end-pages, end-shapes, end-after, end-good}
 use borrow.Author.Needs.{needs}
@@ -12,7 +12,7 @@ because-requires : tie.Need-because-requires
 because-requires c κs = search needs
 
 returns : tie.Need-returns
-returns c = passed-because cut _ (c .because .ensures) (end-length _ _ _ (c .before .if1 .taken))
+returns c = passed-because lengths _ (c .because .ensures) (end-length _ _ _ (c .before .if1 .taken))
 
 u32-at-requires : tie.Need-u32-at-requires
 u32-at-requires c κs = search needs
@@ -49,7 +49,7 @@ returns-4 c =
     let e = c .before .before in
     let d = e .before .before in
     c .of .ensures
-    ∙ rule-passed _ cut _
+    ∙ rule-passed _ lengths _
     (λ t. (_, end-good _ _ _ (d .before .if1 .left) _ (d .u32-at .ensures .0) (e .before .if2 .left) _ (e .u32-at2 .ensures .0) (c .before .if3 .left) (eqb-true _ _ t)))
     (λ f. end-after _ _ _ (d .before .if1 .left) _ (d .u32-at .ensures .0) (e .before .if2 .left) _ (e .u32-at2 .ensures .0) (c .before .if3 .left) (eqb-false _ _ f))
 

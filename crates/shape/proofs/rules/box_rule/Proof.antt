@@ -14,7 +14,7 @@ of-requires : tie.Need-of-requires
 of-requires c κs = search needs
 
 returns : tie.Need-returns
-returns c = c .of .ensures ∙ ap (λ (t : Bool). rule t table.boxValue) (c .before .box-holds .ensures)
+returns c = c .of .ensures ∙ ap (λ (t : Bool). rule t table.box) (c .before .box-holds .ensures)
 
 pub box-rule-spec : {M : Type 1} → statement M
 box-rule-spec = tie.close (tie.spec box-holds-requires of-requires returns)
