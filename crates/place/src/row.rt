@@ -17,7 +17,7 @@ pub struct Row {
 }
 
 // The row of the shape at index i of a page with a head that was read from its body.
-pub fn row_in(b: &[u8], h: Head, i: usize) -> Row
+fn row_in(b: &[u8], h: Head, i: usize) -> Row
     requires { ⌜ ((e : ℕ) × (headOf e (now b) ≡ ok h)) × (i < h .g) ⌝ }
     ensures { λ r. ⌜ r ≡ rowOf h (now (b .entry)) i ⌝ }
 {

@@ -7,8 +7,7 @@ ghost use Rattle.extent.specs.Rank.{allFinite};
 ghost use Rattle.types.specs.Parts.{partsHold};
 ghost use Rattle.query.specs.Ask.{sound};
 ghost use Rattle.shape.specs.Outline.{outlinesOf};
-ghost use Rattle.search.specs.Search.{placesOf};
-ghost use Rattle.search.specs.Flags.{bitsOf, Adds};
+ghost use Rattle.search.specs.Met.{Noted};
 use crate::flags::note;
 use query::ask::Ask;
 use query::ask::hit;
@@ -26,7 +25,7 @@ pub(crate) fn shapes_hit(
     flags: &mut [u8],
 ) -> usize
     requires { ⌜ (sound (a .query) ≡ true) × (n + length (now types) ≤ 262144) × (partsHold (now types) (now counts) (now lens) (length (now xs)) ≡ true) × (length (now ys) ≡ length (now xs)) × (allFinite (now xs) ≡ true) × (allFinite (now ys) ≡ true) ⌝ }
-    ensures { λ r. ⌜ (r ≡ length (placesOf a n (outlinesOf (now (types .entry)) (now (counts .entry)) (now (lens .entry)) (now (xs .entry)) (now (ys .entry))))) × Adds (now (flags .entry)) (now (flags .exit)) n (n + length (now (types .entry))) (bitsOf (placesOf a n (outlinesOf (now (types .entry)) (now (counts .entry)) (now (lens .entry)) (now (xs .entry)) (now (ys .entry))))) ⌝ }
+    ensures { λ r. ⌜ Noted a n (outlinesOf (now (types .entry)) (now (counts .entry)) (now (lens .entry)) (now (xs .entry)) (now (ys .entry))) (n + length (now (types .entry))) r (now (flags .entry)) (now (flags .exit)) ⌝ }
 {
     let mut i: usize = 0;
     let mut k: usize = 0;
