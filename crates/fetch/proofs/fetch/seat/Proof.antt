@@ -28,7 +28,7 @@ returns c =
     seeks-refused (a .s .now) (a .place) (w .0 .0) (seat-refused (a .s .now) (a .place) (w .0 .0) (frame-refusal-said (a .s .now) _ (c .before .before .before .frame .ensures) (w .0 .0) (w .1)))
 
 returns-2 : tie.Need-returns-2
-returns-2 c = search needs
+returns-2 c = c .seek .ensures
 
 pub seat-spec : {M : Type 1} → statement M
 seat-spec =

@@ -1,4 +1,4 @@
--- `fetch::row::row_at` reads the row in the part of the file that is the page's body. Assumes nothing.
+-- `place::row::row_at` reads the row in the part of the file that is the page's body. Assumes nothing.
 use Rattle.page.proofs.Opening.{part-of}
 use borrow.Author.Needs.{needs}
 use Rattle.place.proofs.row.row_at.Statement.{statement}

@@ -1,4 +1,4 @@
--- `fetch::row::row_in` reads a register and a type where the layout says. Assumes nothing.
+-- `place::row::row_in` reads a register and a type where the layout says. Assumes nothing.
 use native.Mathlib.Omega.{arith}
 use mathlib.Core.Path.{refl}
 use Rattle.place.proofs.Tables.{row-there, row-is}

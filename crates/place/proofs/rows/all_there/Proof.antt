@@ -1,4 +1,4 @@
--- `fetch::rows::all_there` tests each place: those to come decide. Assumes nothing.
+-- `place::rows::all_there` tests each place: those to come decide. Assumes nothing.
 use mathlib.Core.Path.{_≡_, refl}
 use Prim.Native.Nat.{ℕ, _-_, _≤_}
 use native.Mathlib.Omega.{arith}

@@ -1,4 +1,4 @@
--- `fetch::rows::put_rows` puts row after row: the first i stand in the rooms, and from the cursor of the last page one may seek on. Assumes nothing.
+-- `place::rows::put_rows` puts row after row: the first i stand in the rooms, and from the cursor of the last page one may seek on. Assumes nothing.
 use Prim.Native.Nat.{_*_, _-_, _<_}
 use native.Mathlib.Omega.{arith}
 use lib.ListN.{length}

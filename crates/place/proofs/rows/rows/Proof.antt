@@ -1,4 +1,4 @@
--- `fetch::rows::rows` judges the frame, the places and the rooms, in this order, before it puts anything: a law for each return. Assumes nothing.
+-- `place::rows::rows` judges the frame, the places and the rooms, in this order, before it puts anything: a law for each return. Assumes nothing.
 use mathlib.Core.Path.{sym, _∙_}
 use borrow.Author.Tests.{not-true, not-false}
 use lib.ListN.{length}

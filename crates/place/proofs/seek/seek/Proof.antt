@@ -1,4 +1,4 @@
--- `fetch::seek::seek` goes from page to page until the place lies in one: from each cursor it may be sought as well as from the first page, and the
+-- `place::seek::seek` goes from page to page until the place lies in one: from each cursor it may be sought as well as from the first page, and the
 -- pages that may follow get fewer. Assumes nothing.
 use Prim.Native.Nat.{_-_, _≤_}
 use mathlib.Core.Path.{sym, ap, _∙_}

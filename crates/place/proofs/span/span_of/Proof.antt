@@ -1,4 +1,4 @@
--- `fetch::span::span_of` sums up the parts and the vertices before a shape, and with its own. Assumes nothing.
+-- `place::span::span_of` sums up the parts and the vertices before a shape, and with its own. Assumes nothing.
 use mathlib.Core.Path.{refl, sym}
 use Prim.Native.Nat.{suc, _+_, _≤_}
 use native.Mathlib.Omega.{arith}
