@@ -1,4 +1,4 @@
--- Shown here: the fewest digits that hold a number are its decimal, of at most 20 digits where the number has 64 bits; and what is put for numbers one behind the other is their text. Nothing is assumed.
+-- Shown here: the fewest digits that hold a number of 64 bits are its decimal, which takes at most 20. Nothing is assumed.
 use Prim.Native.Nat.{ℕ, zero, suc, _+_, _-_, _*_, _/_, _%_, _^_, _≤_, _<_}
 use mathlib.Core.Path.{_≡_, refl, sym, ap, ap₂, _∙_}
 use mathlib.Core.Bool.{Bool, true, false, cond}
@@ -7,13 +7,10 @@ use native.Mathlib.Nat.{one-le-pow, zero-lt-suc, pow-le-pow-right, mod-eq-of-lt}
 use native.Mathlib.Numerals.{unary-clauses}
 use native.Mathlib.Omega.{arith}
 use borrow.Author.Tests.{lt-ltb, le-ltb, leb-true, leb-false}
-use lib.ListN.{length, length-append, set, take}
-use lib.Seq.{sets}
+use lib.ListN.{length, length-append, take}
 use lib.Dec.{ltb, leb}
-use Rattle.io.specs.Counts.{Counts}
 use Rattle.io.specs.Digits.{digits, glyph, Fewest}
-use Rattle.le.proofs.Stores.{sets-append}
-use Rattle.text.specs.Decimal.{Puts, digitsOf, decimal, marked, row}
+use Rattle.text.specs.Decimal.{digitsOf, decimal}
 
 -- a number below ten is its one digit
 digits-one : (m n : ℕ) → n < 10 → digitsOf (suc m) n ≡ (48 + n) ∷ []
@@ -40,16 +37,16 @@ fewer k n f =
       λ _. simp unary-clauses (let h : p ≤ n / 10 = omega arith in h),
     )
 
--- the fewest digits that hold a number are its decimal
-pub fewest-decimal : (k m n : ℕ) → Fewest 10 1 n (suc k) → k < m → digits 10 (suc k) n ≡ digitsOf m n
-fewest-decimal k zero n f h = absurd (let z : 1 ≤ 0 = omega arith in omega arith)
-fewest-decimal zero (suc m) n f h =
+-- the fewest digits that hold a number are those of its decimal
+fewest-digits : (k m n : ℕ) → Fewest 10 1 n (suc k) → k < m → digits 10 (suc k) n ≡ digitsOf m n
+fewest-digits k zero n f h = absurd (let z : 1 ≤ 0 = omega arith in omega arith)
+fewest-digits zero (suc m) n f h =
     let u : n < 10 = f .1 in
     ap (λ (d : ℕ). d ∷ []) (ap glyph (mod-eq-of-lt u) ∙ glyph-is n u) ∙ sym (digits-one m n u)
-fewest-decimal (suc k) (suc m) n f h =
+fewest-digits (suc k) (suc m) n f h =
     let l : 10 ^ k * 10 ≤ n = simp unary-clauses at (f .2 (omega arith)) in
     let g : 0 < 10 ^ k = one-le-pow k 10 (zero-lt-suc 9) in
-    ap₂ (λ (l : List ℕ) (d : ℕ). l ++ (d ∷ [])) (fewest-decimal k m (n / 10) (fewer k n f) (omega arith)) (glyph-is (n % 10) (omega arith))
+    ap₂ (λ (l : List ℕ) (d : ℕ). l ++ (d ∷ [])) (fewest-digits k m (n / 10) (fewer k n f) (omega arith)) (glyph-is (n % 10) (omega arith))
     ∙ sym (digits-more m n (omega arith))
 
 -- a number of 64 bits takes at most 20
@@ -65,8 +62,7 @@ fewest-20 n k f u = go (leb k 20) refl
         let p : 10 ^ 20 ≤ 10 ^ (k - 1) = pow-le-pow-right (zero-lt-suc 9) j in
         absurd (let z : 2 ^ 64 ≤ 10 ^ 20 = omega arith in omega arith)
 
--- so does its decimal
-pub digits-length : (k n : ℕ) → length (digitsOf k n) ≤ k
+digits-length : (k n : ℕ) → length (digitsOf k n) ≤ k
 unfolding digitsOf
 digits-length zero n = omega arith
 digits-length (suc k) n = go (ltb n 10) (digits-length k (n / 10))
@@ -75,49 +71,13 @@ digits-length (suc k) n = go (ltb n 10) (digits-length k (n / 10))
     go true h = omega arith
     go false h = omega (arith, length-append (digitsOf k (n / 10)) ((48 + n % 10) ∷ []))
 
--- 20 at most
+-- so does its decimal
 pub decimal-length : (n : ℕ) → length (decimal n) ≤ 20
 unfolding decimal
 decimal-length n = digits-length 20 n
 
--- what is put for a number is its decimal
-pub decimal-put : (d t l : List ℕ) (at k n : ℕ) → n < 2 ^ 64 → Fewest 10 1 n k → Counts k l → take k l ≡ digits 10 k n → t ≡ sets d at (take k l)
-    → Puts d at (decimal n) (at + k) t
+-- so what the kit puts for it, k digits at the start of l, is its decimal
+pub fewest-decimal : (k n : ℕ) (l : List ℕ) → n < 2 ^ 64 → Fewest 10 1 n k → take k l ≡ digits 10 k n → take k l ≡ decimal n
 unfolding decimal
-decimal-put d t l at zero n u f c e g = absurd (let z : 1 ≤ 0 = f .0 in omega arith)
-decimal-put d t l at (suc k) n u f c e g =
-    let s : take (suc k) l ≡ digitsOf 20 n = e ∙ fewest-decimal k 20 n f (fewest-20 n (suc k) f u) in
-    (ap (λ (j : ℕ). at + j) (c .1 ∙ ap length s), g ∙ ap (sets d at) s)
-
--- two texts that are put one behind the other are one text
-pub puts-two : (d t u x y : List ℕ) (at a b : ℕ) → Puts d at x a t → Puts t a y b u → Puts d at (x ++ y) b u
-puts-two d t u x y at a b p q = (
-  omega (arith, length-append x y, p .0, q .0),
-  q .1 ∙ ap₂ (λ (l : List ℕ) (j : ℕ). sets l j y) (p .1) (p .0) ∙ sym (sets-append x y d at),
-)
-
--- a number and the mark behind it
-pub marked-put : (d t : List ℕ) (at end n mark : ℕ) → Puts d at (decimal n) end t → Puts d at (marked n mark) (end + 1) (set t end mark)
-unfolding marked
-marked-put d t at end n mark p = puts-two d t (set t end mark) (decimal n) (mark ∷ []) at end (end + 1) p (refl, refl)
-
--- which take 21 at most
-pub marked-length : (n mark : ℕ) → length (marked n mark) ≤ 21
-unfolding marked
-marked-length n mark = omega (arith, decimal-length n, length-append (decimal n) (mark ∷ []))
-
--- and the three numbers of a row
-pub row-put : (d t u v : List ℕ) (at a b c place register kind : ℕ)
-    → Puts d at (marked place 32) a t
-    → Puts t a (marked register 32) b u
-    → Puts u b (marked kind 10) c v
-    → (length (row place register kind) ≤ 63) × Puts d at (row place register kind) c v
-unfolding row
-row-put d t u v at a b c place register kind p q r =
-    let x = marked place 32 in
-    let y = marked register 32 in
-    let z = marked kind 10 in
-    let m : length (x ++ (y ++ z)) ≡ length x + (length y + length z) = length-append x (y ++ z) ∙ ap (λ (n : ℕ). length x + n) (length-append y z) in (
-      omega (arith, m, marked-length place 32, marked-length register 32, marked-length kind 10),
-      puts-two d t v x (y ++ z) at a c p (puts-two t u v y z a b c q r),
-    )
+fewest-decimal zero n l u f e = absurd (let z : 1 ≤ 0 = f .0 in omega arith)
+fewest-decimal (suc k) n l u f e = e ∙ fewest-digits k 20 n f (fewest-20 n (suc k) f u)

@@ -1,62 +1,62 @@
-// The lines that the programs print, each put at the start of a room of 64 bytes. Two numbers of 20 digits take 40, and the words of a line at most 21.
+// The lines that the programs print, each a chain of words and numbers. A line asks of the room, from its place on, the most bytes that its pieces can take; where the next
+// thing goes lies in the room.
 ghost use Prim.Native.Nat.{_+_, _≤_};
 ghost use lib.ListN.{length};
-ghost use Rattle.text.specs.Decimal.{Puts};
-ghost use Rattle.text.specs.Lines.{Lined, told, twoNumbers, refusedLine, hitsLine, soundLine};
+ghost use Rattle.io.specs.Counts.{Counts};
+ghost use Rattle.text.specs.Pieces.{Puts};
+ghost use Rattle.text.specs.Lines.{row, hitsLine, refusedLine, soundLine};
 use crate::put_number;
-use le::run::put_bytes;
+use crate::put_words;
 
-// Puts words and a number behind them: where the next thing goes.
-fn put_told(out: &mut [u8], at: usize, words: &[u8], n: u64) -> usize
-    requires { ⌜ at + length (now words) + 20 ≤ length (now out) ⌝ }
-    ensures { λ r. ⌜ Puts (now (out .entry)) at (told (now (words .entry)) n) r (now (out .exit)) ⌝ }
+// Puts a row, "place register type": where the next thing goes.
+pub fn put_row(out: &mut [u8], at: usize, place: u32, register: u32, kind: u8) -> usize
+    requires { ⌜ at + 63 ≤ length (now out) ⌝ }
+    ensures { λ r. ⌜ Puts (now (out .entry)) at (row place register kind) r (now (out .exit)) ⌝ }
+    ensures { λ r. ⌜ Counts r (now (out .exit)) ⌝ }
 {
-    put_bytes(out, at, words);
-    put_number(out, at + words.len(), n)
+    let a = put_number(out, at, place as u64);
+    let b = put_words(out, a, b" ");
+    let c = put_number(out, b, register as u64);
+    let d = put_words(out, c, b" ");
+    let e = put_number(out, d, kind as u64);
+    put_words(out, e, b"\n")
 }
 
-// Puts a line of two numbers, with words before each and behind both: its length.
-fn put_line(out: &mut [u8; 64], a: &[u8], n: u64, b: &[u8], m: u64, c: &[u8]) -> usize
-    requires { ⌜ length (now a) + length (now b) + length (now c) ≤ 24 ⌝ }
-    ensures { λ r. ⌜ Lined (twoNumbers (now (a .entry)) n (now (b .entry)) m (now (c .entry))) (now (out .entry)) r (now (out .exit)) ⌝ }
+// Puts "hits H of M": where the next thing goes.
+pub fn put_hits(out: &mut [u8], at: usize, hits: usize, shapes: usize) -> usize
+    requires { ⌜ at + 50 ≤ length (now out) ⌝ }
+    ensures { λ r. ⌜ Puts (now (out .entry)) at (hitsLine hits shapes) r (now (out .exit)) ⌝ }
+    ensures { λ r. ⌜ Counts r (now (out .exit)) ⌝ }
 {
-    let i = put_told(out, 0, a, n);
-    let j = put_told(out, i, b, m);
-    put_bytes(out, j, c);
-    j + c.len()
+    let a = put_words(out, at, b"hits ");
+    let b = put_number(out, a, hits as u64);
+    let c = put_words(out, b, b" of ");
+    let d = put_number(out, c, shapes as u64);
+    put_words(out, d, b"\n")
 }
 
-// "refused R page P": its length.
-pub fn put_refused(out: &mut [u8; 64], number: u8, page: u32) -> usize
-    ensures { λ r. ⌜ Lined (refusedLine number page) (now (out .entry)) r (now (out .exit)) ⌝ }
+// Puts "refused R page P": where the next thing goes.
+pub fn put_refused(out: &mut [u8], at: usize, reason: u8, page: u32) -> usize
+    requires { ⌜ at + 55 ≤ length (now out) ⌝ }
+    ensures { λ r. ⌜ Puts (now (out .entry)) at (refusedLine reason page) r (now (out .exit)) ⌝ }
+    ensures { λ r. ⌜ Counts r (now (out .exit)) ⌝ }
 {
-    put_line(
-        out,
-        b"refused ",
-        number as u64,
-        b" page ",
-        page as u64,
-        b"\n",
-    )
+    let a = put_words(out, at, b"refused ");
+    let b = put_number(out, a, reason as u64);
+    let c = put_words(out, b, b" page ");
+    let d = put_number(out, c, page as u64);
+    put_words(out, d, b"\n")
 }
 
-// "hits H of M": its length.
-pub fn put_hits(out: &mut [u8; 64], hits: usize, shapes: usize) -> usize
-    ensures { λ r. ⌜ Lined (hitsLine hits shapes) (now (out .entry)) r (now (out .exit)) ⌝ }
+// Puts "sound P pages M shapes": where the next thing goes.
+pub fn put_sound(out: &mut [u8], at: usize, pages: usize, shapes: usize) -> usize
+    requires { ⌜ at + 61 ≤ length (now out) ⌝ }
+    ensures { λ r. ⌜ Puts (now (out .entry)) at (soundLine pages shapes) r (now (out .exit)) ⌝ }
+    ensures { λ r. ⌜ Counts r (now (out .exit)) ⌝ }
 {
-    put_line(out, b"hits ", hits as u64, b" of ", shapes as u64, b"\n")
-}
-
-// "sound P pages M shapes": its length.
-pub fn put_sound(out: &mut [u8; 64], pages: usize, shapes: usize) -> usize
-    ensures { λ r. ⌜ Lined (soundLine pages shapes) (now (out .entry)) r (now (out .exit)) ⌝ }
-{
-    put_line(
-        out,
-        b"sound ",
-        pages as u64,
-        b" pages ",
-        shapes as u64,
-        b" shapes\n",
-    )
+    let a = put_words(out, at, b"sound ");
+    let b = put_number(out, a, pages as u64);
+    let c = put_words(out, b, b" pages ");
+    let d = put_number(out, c, shapes as u64);
+    put_words(out, d, b" shapes\n")
 }

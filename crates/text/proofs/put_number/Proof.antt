@@ -1,6 +1,13 @@
--- `text::put_number` puts the fewest digits that hold a number: its decimal. Nothing is assumed.
-use Rattle.text.proofs.Decimals.{fewest-20, decimal-put}
+-- `text::put_number` puts a number: the fewest digits that hold it are its decimal, of at most 20. Nothing is assumed.
+use Prim.Native.Nat.{ℕ, _+_}
+use mathlib.Core.Path.{ap, _∙_}
+use mathlib.Core.List.{List}
 use native.Mathlib.Omega.{arith}
+use lib.ListN.{length}
+use lib.Seq.{sets}
+use Rattle.text.specs.Pieces.{number, bytesOf}
+use Rattle.text.proofs.Decimals.{fewest-20, fewest-decimal}
+use Rattle.text.proofs.Pieces.{put-one}
 use borrow.Author.Needs.{needs}
 use Rattle.text.proofs.put_number.Statement.{statement}
 use Rattle.text.proofs.put_number.Tie as tie
@@ -16,25 +23,29 @@ slice-aggregate-put-bytes c = search needs
 
 put-bytes-requires : tie.Need-put-bytes-requires
 put-bytes-requires c κs =
+    let start = c .before .before .before .before .before in
     let d = c .before .before .decimal in
-    let k = fewest-20 _ _ (d .ensures .1 .0) (c .before .before .before .before .before .fits .n .fits) in
-    omega (arith, k, d .ensures .0 .1, c .before .before .before .before .before .pre)
+    omega (arith, fewest-20 _ _ (d .ensures .1 .0) (start .fits .n .fits), d .ensures .0 .1, start .pre)
 
 add-result : tie.Need-add-result
 add-result c =
     let start = c .before .before .before .before .before .before .before .before in
-    let k = fewest-20 _ _ (c .before .before .before .before .before .decimal .ensures .1 .0) (start .fits .n .fits) in
-    omega (arith, k, start .pre, start .good .0 .0)
+    let d = c .before .before .before .before .before .decimal in
+    omega (arith, fewest-20 _ _ (d .ensures .1 .0) (start .fits .n .fits), start .pre, start .good .0 .0)
 
 same-length : tie.Need-same-length
 same-length c = search needs
 
 returns : tie.Need-returns
+unfolding bytesOf
 returns c =
     let start = c .before .before .before .before .before .before .before .before in
     let a = start .args in
     let d = c .before .before .before .before .before .decimal in
-    decimal-put (a .out .now) _ _ (a .at) (d .result) (a .n) (start .fits .n .fits) (d .ensures .1 .0) (d .ensures .0) (d .ensures .1 .1) (c .before .before .put-bytes .ensures)
+    let e = fewest-decimal (d .result) (a .n) _ (start .fits .n .fits) (d .ensures .1 .0) (d .ensures .1 .1) in (
+      put-one (number (a .n)) (a .out .now) _ (a .at) _ (ap (λ (k : ℕ). a .at + k) (d .ensures .0 .1 ∙ ap length e)) (c .before .before .put-bytes .ensures ∙ ap (sets (a .out .now) (a .at)) e),
+      omega (arith, fewest-20 _ _ (d .ensures .1 .0) (start .fits .n .fits)),
+    )
 
 pub put-number-spec : {M : Type 1} → statement M
 put-number-spec =
