@@ -24,9 +24,10 @@ unfolding textOf
 text-append [] qs = refl
 text-append (p ∷ ps) qs = ap (λ (l : List ℕ). bytesOf p ++ l) (text-append ps qs) ∙ sym (append-assoc (bytesOf p) (textOf ps) (textOf qs))
 
+infixr 30 _then_
 -- a text that is put behind a text makes one with it
-pub behind : {d t u : List ℕ} {ps qs : List Piece} {at a b : ℕ} → Puts d at ps a t → Puts t a qs b u → Puts d at (ps ++ qs) b u
-behind {d} {t} {u} {ps} {qs} {at} {a} {b} p q =
+pub _then_ : {d t u : List ℕ} {ps qs : List Piece} {at a b : ℕ} → Puts d at ps a t → Puts t a qs b u → Puts d at (ps ++ qs) b u
+_then_ {d} {t} {u} {ps} {qs} {at} {a} {b} p q =
     let e = text-append ps qs in
     record {
       next = omega (arith, p .next, q .next, ap length e, length-append (textOf ps) (textOf qs));

@@ -8,13 +8,13 @@ use le::run::put_bytes;
 pub mod lines;
 
 // Puts words: where the next thing goes.
-pub fn put_words(out: &mut [u8], at: usize, said: &[u8]) -> usize
-    requires { ⌜ at + length (now said) ≤ length (now out) ⌝ }
-    ensures { λ r. ⌜ Puts (now (out .entry)) at (words (now (said .entry)) ∷ []) r (now (out .exit)) ⌝ }
-    ensures { λ r. ⌜ r ≤ at + length (now (said .entry)) ⌝ }
+pub fn put_words(out: &mut [u8], at: usize, letters: &[u8]) -> usize
+    requires { ⌜ at + length (now letters) ≤ length (now out) ⌝ }
+    ensures { λ r. ⌜ Puts (now (out .entry)) at (words (now (letters .entry)) ∷ []) r (now (out .exit)) ⌝ }
+    ensures { λ r. ⌜ r ≤ at + length (now (letters .entry)) ⌝ }
 {
-    put_bytes(out, at, said);
-    at + said.len()
+    put_bytes(out, at, letters);
+    at + letters.len()
 }
 
 // Puts a number in decimal, which takes at most 20 bytes: where the next thing goes.

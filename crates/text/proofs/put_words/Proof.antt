@@ -21,7 +21,7 @@ returns : tie.Need-returns
 unfolding bytesOf
 returns c =
     let a = c .before .before .before .before .before .before .args in
-    (put-one (words (a .said .now)) (a .out .now) _ (a .at) _ refl (c .before .before .put-bytes .ensures), omega arith)
+    (put-one (words (a .letters .now)) (a .out .now) _ (a .at) _ refl (c .before .before .put-bytes .ensures), omega arith)
 
 pub put-words-spec : {M : Type 1} → statement M
 put-words-spec = tie.close (tie.spec put-bytes-requires add-result same-length returns)

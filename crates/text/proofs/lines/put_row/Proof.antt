@@ -1,7 +1,7 @@
 -- `text::lines::put_row` puts the pieces of `row`, one behind the other. Nothing is assumed.
 use Rattle.text.specs.Pieces.{codes, most}
 use Rattle.text.specs.Lines.{row}
-use Rattle.text.proofs.Pieces.{behind, within}
+use Rattle.text.proofs.Pieces.{_then_, within}
 use borrow.Author.Needs.{needs}
 use Rattle.text.proofs.lines.put_row.Statement.{statement}
 use Rattle.text.proofs.lines.put_row.Tie as tie
@@ -45,7 +45,13 @@ returns c =
     let third = fourth .before .before .before .before .before in
     let second = third .before .before .before .before in
     let first = second .before .before .before .before .before in
-    let text = behind (first .put-number .ensures .0) (behind (second .put-words .ensures .0) (behind (third .put-number2 .ensures .0) (behind (fourth .put-words2 .ensures .0) (behind (fifth .put-number3 .ensures .0) (sixth .put-words3 .ensures .0))))) in
+    let text =
+    first .put-number .ensures .0
+    then second .put-words .ensures .0
+    then third .put-number2 .ensures .0
+    then fourth .put-words2 .ensures .0
+    then fifth .put-number3 .ensures .0
+    then sixth .put-words3 .ensures .0 in
     (text, within text (first .before .before .before .pre))
 
 pub put-row-spec : {M : Type 1} → statement M

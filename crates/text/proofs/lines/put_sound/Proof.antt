@@ -1,7 +1,7 @@
 -- `text::lines::put_sound` puts the pieces of `soundLine`, one behind the other. Nothing is assumed.
 use Rattle.text.specs.Pieces.{codes, most}
 use Rattle.text.specs.Lines.{soundLine}
-use Rattle.text.proofs.Pieces.{behind, within}
+use Rattle.text.proofs.Pieces.{_then_, within}
 use borrow.Author.Needs.{needs}
 use Rattle.text.proofs.lines.put_sound.Statement.{statement}
 use Rattle.text.proofs.lines.put_sound.Tie as tie
@@ -41,7 +41,12 @@ returns c =
     let third = fourth .before .before .before .before in
     let second = third .before .before .before .before .before in
     let first = second .before .before .before .before in
-    let text = behind (first .put-words .ensures .0) (behind (second .put-number .ensures .0) (behind (third .put-words2 .ensures .0) (behind (fourth .put-number2 .ensures .0) (fifth .put-words3 .ensures .0)))) in
+    let text =
+    first .put-words .ensures .0
+    then second .put-number .ensures .0
+    then third .put-words2 .ensures .0
+    then fourth .put-number2 .ensures .0
+    then fifth .put-words3 .ensures .0 in
     (text, within text (first .before .before .before .before .pre))
 
 pub put-sound-spec : {M : Type 1} → statement M
