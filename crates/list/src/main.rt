@@ -21,7 +21,7 @@ use query::block::block_len;
 use search::search::search_sound;
 use text::lines::put_hits;
 use text::lines::put_refused;
-use text::put_row;
+use text::lines::put_row;
 
 // The least of three lengths.
 fn least(a: usize, b: usize, c: usize) -> usize
@@ -69,14 +69,14 @@ fn say_rows(places: &[u32], registers: &[u32], types: &[u8], out: &mut [u8])
 // "refused R page P".
 fn say_refused(w: Refusal) {
     let mut out = [0u8; 64];
-    let k = put_refused(&mut out, w.number, w.page);
+    let k = put_refused(&mut out, 0, w.number, w.page);
     io::write_all(STDOUT_FILENO, &out[..k]);
 }
 
 // "hits H of M".
 fn say_hits(hits: usize, shapes: usize) {
     let mut out = [0u8; 64];
-    let k = put_hits(&mut out, hits, shapes);
+    let k = put_hits(&mut out, 0, hits, shapes);
     io::write_all(STDOUT_FILENO, &out[..k]);
 }
 

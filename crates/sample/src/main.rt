@@ -45,7 +45,7 @@ fn second_page(w: Writer, file: &mut [u8]) -> Stepped {
 // "refused R page P".
 fn say_refused(w: Refusal) {
     let mut out = [0u8; 64];
-    let k = put_refused(&mut out, w.number, w.page);
+    let k = put_refused(&mut out, 0, w.number, w.page);
     io::write_all(STDOUT_FILENO, &out[..k]);
 }
 

@@ -13,7 +13,8 @@ use Rattle.frame.specs.declared.walk.Checked.{Checked}
 use Rattle.frame.specs.declared.walk.Checked.the-variants.{Sound, Refused}
 use Rattle.frame.specs.Said.{saidChecked}
 use Rattle.file.specs.Check.{checkOf}
-use Rattle.text.specs.Lines.{Lined, refusedLine, soundLine}
+use Rattle.text.specs.Pieces.{Piece, Puts}
+use Rattle.text.specs.Lines.{refusedLine, soundLine}
 use Rattle.sound.specs.Sound.{judgedOf, lineOf, soundOf}
 
 -- over 40,960 bytes, and no more
@@ -27,10 +28,10 @@ judged-check s r h e = e ∙ sym (met (because many) (checkOf s) (le-leb (length
 
 -- the line of a sound file, and of a refused one
 module _ (s d : List ℕ) (says : Checked) (r : ℕ) (left : List ℕ) (e : saidChecked says ≡ judgedOf s) where
-  pub line-sound : (t : Totals) → says ≡ Sound t → Lined (soundLine (t .pages) (t .shapes)) d r left → Lined (soundOf s) d r left
+  pub line-sound : (t : Totals) → says ≡ Sound t → Puts d 0 (soundLine (t .pages) (t .shapes)) r left → Puts d 0 (soundOf s) r left
   unfolding saidChecked lineOf soundOf
-  line-sound t f = subst (λ (l : List ℕ). Lined l d r left) (ap lineOf (sym (ap saidChecked f) ∙ e))
+  line-sound t f = subst (λ (l : List Piece). Puts d 0 l r left) (ap lineOf (sym (ap saidChecked f) ∙ e))
 
-  pub line-refused : (w : Refusal) → says ≡ Refused w → Lined (refusedLine (w .number) (w .page)) d r left → Lined (soundOf s) d r left
+  pub line-refused : (w : Refusal) → says ≡ Refused w → Puts d 0 (refusedLine (w .number) (w .page)) r left → Puts d 0 (soundOf s) r left
   unfolding saidChecked lineOf soundOf
-  line-refused w f = subst (λ (l : List ℕ). Lined l d r left) (ap lineOf (sym (ap saidChecked f) ∙ e))
+  line-refused w f = subst (λ (l : List Piece). Puts d 0 l r left) (ap lineOf (sym (ap saidChecked f) ∙ e))

@@ -9,6 +9,7 @@ use Rattle.answer.specs.Refusal.{because}
 use Rattle.answer.specs.Outcome.{Out, refused, ok, need}
 use Rattle.frame.specs.declared.walk.Totals.{Totals}
 use Rattle.file.specs.Check.{checkOf}
+use Rattle.text.specs.Pieces.{Piece}
 use Rattle.text.specs.Lines.{refusedLine, soundLine}
 
 -- 3 for over 40,960 bytes, else the full check
@@ -16,10 +17,10 @@ unfoldable pub judgedOf : List ℕ → Out Totals
 judgedOf s = need (leb (length s) 40960) (because many) (checkOf s)
 
 -- how many pages and shapes, or the refusal with its page, as a line
-unfoldable pub lineOf : Out Totals → List ℕ
+unfoldable pub lineOf : Out Totals → List Piece
 lineOf (refused w) = refusedLine (w .number) (w .page)
 lineOf (ok t) = soundLine (t .pages) (t .shapes)
 
 -- the line for the bytes
-unfoldable pub soundOf : List ℕ → List ℕ
+unfoldable pub soundOf : List ℕ → List Piece
 soundOf s = lineOf (judgedOf s)

@@ -1,7 +1,8 @@
 // The full check as a program: a file on standard input, and one line that says how many pages and shapes it has, or why it is refused.
 ghost use mathlib.Core.Path.{_≡_};
+ghost use Rattle.io.specs.Counts.{Counts};
 ghost use Rattle.frame.specs.Said.{saidChecked};
-ghost use Rattle.text.specs.Lines.{Lined};
+ghost use Rattle.text.specs.Pieces.{Puts};
 ghost use Rattle.sound.specs.Sound.{judgedOf, soundOf};
 use answer::Refusal;
 use answer::table::MANY;
@@ -24,11 +25,12 @@ fn judged(input: &[u8]) -> Checked
 
 // Puts the line for the bytes that were read: its length.
 fn answer(input: &[u8], out: &mut [u8; 64]) -> usize
-    ensures { λ r. ⌜ Lined (soundOf (now (input .entry))) (now (out .entry)) r (now (out .exit)) ⌝ }
+    ensures { λ r. ⌜ Puts (now (out .entry)) 0 (soundOf (now (input .entry))) r (now (out .exit)) ⌝ }
+    ensures { λ r. ⌜ Counts r (now (out .exit)) ⌝ }
 {
     match judged(input) {
-        Checked::Sound(t) => put_sound(out, t.pages, t.shapes),
-        Checked::Refused(w) => put_refused(out, w.number, w.page),
+        Checked::Sound(t) => put_sound(out, 0, t.pages, t.shapes),
+        Checked::Refused(w) => put_refused(out, 0, w.number, w.page),
     }
 }
 
