@@ -1,5 +1,5 @@
-// The lines that the programs print, each a chain of words and numbers. A line asks of the room, from its place on, the most bytes that its pieces can take; where the next
-// thing goes lies in the room.
+// The lines that the programs print, each a chain of words and numbers. A line asks of the room, from its place on, the most
+// bytes that its pieces can take; where the next thing goes lies in the room.
 ghost use Prim.Native.Nat.{_+_, _≤_};
 ghost use lib.ListN.{length};
 ghost use Rattle.io.specs.Counts.{Counts};

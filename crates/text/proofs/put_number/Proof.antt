@@ -1,7 +1,6 @@
 -- `text::put_number` puts a number: the fewest digits that hold it are its decimal, of at most 20. Nothing is assumed.
 use Prim.Native.Nat.{ℕ, _+_}
 use mathlib.Core.Path.{ap, _∙_}
-use mathlib.Core.List.{List}
 use native.Mathlib.Omega.{arith}
 use lib.ListN.{length}
 use lib.Seq.{sets}

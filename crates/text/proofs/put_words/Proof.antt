@@ -1,5 +1,4 @@
 -- `text::put_words` puts a piece of words: the bytes lent. Nothing is assumed.
-use Prim.Native.Nat.{_+_}
 use mathlib.Core.Path.{refl}
 use native.Mathlib.Omega.{arith}
 use Rattle.text.specs.Pieces.{words, bytesOf}
