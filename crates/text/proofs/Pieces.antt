@@ -41,9 +41,16 @@ text-most [] = omega arith
 text-most (words l ∷ ps) = omega (arith, length-append l (textOf ps), text-most ps)
 text-most (number n ∷ ps) = omega (arith, length-append (decimal n) (textOf ps), decimal-length n, text-most ps)
 
--- so where the room holds that much from a place on, what is put there ends within the room
+-- so what is put for them ends so far behind its place at most
+pub ends : {d t : List ℕ} {ps : List Piece} {at r : ℕ} → Puts d at ps r t → r ≤ at + most ps
+ends {d} {t} {ps} p = omega (arith, p .next, text-most ps)
+
+-- the room keeps its length
+pub keeps : {d t : List ℕ} {ps : List Piece} {at r : ℕ} → Puts d at ps r t → length t ≡ length d
+keeps {d} {t} {ps} {at} p = ap length (p .room) ∙ length-sets d at (textOf ps)
+
+-- so what is put where the room holds the most of its pieces ends within the room
 pub within : {d t : List ℕ} {ps : List Piece} {at r : ℕ} → Puts d at ps r t → at + most ps ≤ length d → Counts r t
 within {d} {t} {ps} {at} {r} p h =
-    let k : length t ≡ length d = ap length (p .room) ∙ length-sets d at (textOf ps) in
-    let f : r ≤ length t = omega (arith, p .next, text-most ps) in
+    let f : r ≤ length t = omega (arith, ends p, keeps p) in
     (f, sym (length-take-le r t f))

@@ -12,6 +12,7 @@ use crate::put_words;
 pub fn put_row(out: &mut [u8], at: usize, place: u32, register: u32, kind: u8) -> usize
     requires { ⌜ at + 63 ≤ length (now out) ⌝ }
     ensures { λ r. ⌜ Puts (now (out .entry)) at (row place register kind) r (now (out .exit)) ⌝ }
+    ensures { λ r. ⌜ r ≤ at + 63 ⌝ }
     ensures { λ r. ⌜ Counts r (now (out .exit)) ⌝ }
 {
     let a = put_number(out, at, place as u64);
@@ -26,6 +27,7 @@ pub fn put_row(out: &mut [u8], at: usize, place: u32, register: u32, kind: u8) -
 pub fn put_hits(out: &mut [u8], at: usize, hits: usize, shapes: usize) -> usize
     requires { ⌜ at + 50 ≤ length (now out) ⌝ }
     ensures { λ r. ⌜ Puts (now (out .entry)) at (hitsLine hits shapes) r (now (out .exit)) ⌝ }
+    ensures { λ r. ⌜ r ≤ at + 50 ⌝ }
     ensures { λ r. ⌜ Counts r (now (out .exit)) ⌝ }
 {
     let a = put_words(out, at, b"hits ");
@@ -39,6 +41,7 @@ pub fn put_hits(out: &mut [u8], at: usize, hits: usize, shapes: usize) -> usize
 pub fn put_refused(out: &mut [u8], at: usize, reason: u8, page: u32) -> usize
     requires { ⌜ at + 55 ≤ length (now out) ⌝ }
     ensures { λ r. ⌜ Puts (now (out .entry)) at (refusedLine reason page) r (now (out .exit)) ⌝ }
+    ensures { λ r. ⌜ r ≤ at + 55 ⌝ }
     ensures { λ r. ⌜ Counts r (now (out .exit)) ⌝ }
 {
     let a = put_words(out, at, b"refused ");
@@ -52,6 +55,7 @@ pub fn put_refused(out: &mut [u8], at: usize, reason: u8, page: u32) -> usize
 pub fn put_sound(out: &mut [u8], at: usize, pages: usize, shapes: usize) -> usize
     requires { ⌜ at + 61 ≤ length (now out) ⌝ }
     ensures { λ r. ⌜ Puts (now (out .entry)) at (soundLine pages shapes) r (now (out .exit)) ⌝ }
+    ensures { λ r. ⌜ r ≤ at + 61 ⌝ }
     ensures { λ r. ⌜ Counts r (now (out .exit)) ⌝ }
 {
     let a = put_words(out, at, b"sound ");

@@ -23,13 +23,13 @@ returns : tie.Need-returns
 returns c =
     let a = c .before .before .before .before .before .before .before .args in
     let t = c .before .before .before .t .given in
-    (line-sound (a .input .now) (a .out .now) _ _ _ (c .before .before .before .before .before .judged .ensures) (t .0 .0) (t .1) (c .put-sound .ensures .0), c .put-sound .ensures .1)
+    (line-sound (a .input .now) (a .out .now) _ _ _ (c .before .before .before .before .before .judged .ensures) (t .0 .0) (t .1) (c .put-sound .ensures .0), c .put-sound .ensures .1 .1)
 
 returns-2 : tie.Need-returns-2
 returns-2 c =
     let a = c .before .before .before .before .before .before .before .args in
     let w = c .before .before .before .w .given in
-    (line-refused (a .input .now) (a .out .now) _ _ _ (c .before .before .before .before .before .judged .ensures) (w .0 .0) (w .1) (c .put-refused .ensures .0), c .put-refused .ensures .1)
+    (line-refused (a .input .now) (a .out .now) _ _ _ (c .before .before .before .before .before .judged .ensures) (w .0 .0) (w .1) (c .put-refused .ensures .0), c .put-refused .ensures .1 .1)
 
 pub answer-spec : {M : Type 1} → statement M
 answer-spec =

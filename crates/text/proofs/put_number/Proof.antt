@@ -4,9 +4,9 @@ use mathlib.Core.Path.{ap, _∙_}
 use native.Mathlib.Omega.{arith}
 use lib.ListN.{length}
 use lib.Seq.{sets}
-use Rattle.text.specs.Pieces.{number, bytesOf}
+use Rattle.text.specs.Pieces.{number, bytesOf, most}
 use Rattle.text.proofs.Decimals.{fewest-20, fewest-decimal}
-use Rattle.text.proofs.Pieces.{put-one}
+use Rattle.text.proofs.Pieces.{put-one, ends}
 use borrow.Author.Needs.{needs}
 use Rattle.text.proofs.put_number.Statement.{statement}
 use Rattle.text.proofs.put_number.Tie as tie
@@ -36,15 +36,15 @@ same-length : tie.Need-same-length
 same-length c = search needs
 
 returns : tie.Need-returns
-unfolding bytesOf
+unfolding bytesOf most
 returns c =
     let start = c .before .before .before .before .before .before .before .before in
     let a = start .args in
     let d = c .before .before .before .before .before .decimal in
-    let e = fewest-decimal (d .result) (a .n) _ (start .fits .n .fits) (d .ensures .1 .0) (d .ensures .1 .1) in (
-      put-one (number (a .n)) (a .out .now) _ (a .at) _ (ap (λ (k : ℕ). a .at + k) (d .ensures .0 .1 ∙ ap length e)) (c .before .before .put-bytes .ensures ∙ ap (sets (a .out .now) (a .at)) e),
-      omega (arith, fewest-20 _ _ (d .ensures .1 .0) (start .fits .n .fits)),
-    )
+    let e = fewest-decimal (d .result) (a .n) _ (start .fits .n .fits) (d .ensures .1 .0) (d .ensures .1 .1) in
+    let next = ap (λ (k : ℕ). a .at + k) (d .ensures .0 .1 ∙ ap length e) in
+    let text = put-one (number (a .n)) (a .out .now) _ (a .at) _ next (c .before .before .put-bytes .ensures ∙ ap (sets (a .out .now) (a .at)) e) in
+    (text, ends text)
 
 pub put-number-spec : {M : Type 1} → statement M
 put-number-spec =

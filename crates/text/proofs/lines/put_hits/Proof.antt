@@ -1,7 +1,7 @@
 -- `text::lines::put_hits` puts the pieces of `hitsLine`, one behind the other. Nothing is assumed.
 use Rattle.text.specs.Pieces.{codes, most}
 use Rattle.text.specs.Lines.{hitsLine}
-use Rattle.text.proofs.Pieces.{_then_, within}
+use Rattle.text.proofs.Pieces.{_then_, ends, within}
 use borrow.Author.Needs.{needs}
 use Rattle.text.proofs.lines.put_hits.Statement.{statement}
 use Rattle.text.proofs.lines.put_hits.Tie as tie
@@ -47,7 +47,7 @@ returns c =
     then third .put-words2 .ensures .0
     then fourth .put-number2 .ensures .0
     then fifth .put-words3 .ensures .0 in
-    (text, within text (first .before .before .before .before .pre))
+    (text, (ends text, within text (first .before .before .before .before .pre)))
 
 pub put-hits-spec : {M : Type 1} → statement M
 put-hits-spec =

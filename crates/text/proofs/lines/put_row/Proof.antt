@@ -1,7 +1,7 @@
 -- `text::lines::put_row` puts the pieces of `row`, one behind the other. Nothing is assumed.
 use Rattle.text.specs.Pieces.{codes, most}
 use Rattle.text.specs.Lines.{row}
-use Rattle.text.proofs.Pieces.{_then_, within}
+use Rattle.text.proofs.Pieces.{_then_, ends, within}
 use borrow.Author.Needs.{needs}
 use Rattle.text.proofs.lines.put_row.Statement.{statement}
 use Rattle.text.proofs.lines.put_row.Tie as tie
@@ -52,7 +52,7 @@ returns c =
     then fourth .put-words2 .ensures .0
     then fifth .put-number3 .ensures .0
     then sixth .put-words3 .ensures .0 in
-    (text, within text (first .before .before .before .pre))
+    (text, (ends text, within text (first .before .before .before .pre)))
 
 pub put-row-spec : {M : Type 1} → statement M
 put-row-spec =

@@ -1,7 +1,7 @@
 -- `text::lines::put_sound` puts the pieces of `soundLine`, one behind the other. Nothing is assumed.
 use Rattle.text.specs.Pieces.{codes, most}
 use Rattle.text.specs.Lines.{soundLine}
-use Rattle.text.proofs.Pieces.{_then_, within}
+use Rattle.text.proofs.Pieces.{_then_, ends, within}
 use borrow.Author.Needs.{needs}
 use Rattle.text.proofs.lines.put_sound.Statement.{statement}
 use Rattle.text.proofs.lines.put_sound.Tie as tie
@@ -47,7 +47,7 @@ returns c =
     then third .put-words2 .ensures .0
     then fourth .put-number2 .ensures .0
     then fifth .put-words3 .ensures .0 in
-    (text, within text (first .before .before .before .before .pre))
+    (text, (ends text, within text (first .before .before .before .before .pre)))
 
 pub put-sound-spec : {M : Type 1} → statement M
 put-sound-spec =
