@@ -1,5 +1,7 @@
 pub mod Table
+pub mod Limits
 pub mod Refusal
 pub mod Outcome
 pub mod Rule
-pub mod Every
+pub mod Lent
+pub mod All

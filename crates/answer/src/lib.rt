@@ -4,6 +4,7 @@ ghost use Rattle.answer.specs.Refusal.{because, onPage};
 ghost use Rattle.answer.specs.Outcome.{inPage};
 ghost use Rattle.answer.specs.Rule.{rule, judged};
 
+pub mod limits;
 pub mod table;
 
 // Why a call was refused: a number of the table, and the page it concerns (0 where it concerns none).

@@ -5,6 +5,6 @@ pub mod Stores
 pub mod Puts
 pub mod PutWays
 pub mod BitOrder
-pub mod Blocks
 pub mod Copying
 pub mod Runs
+pub mod Fitting

@@ -9,27 +9,27 @@ use lib.ListN.{length, length-append, getD, set, take, drop}
 use lib.Seq.{take-all, drop-length, take-suc, length-take-le, sets}
 use Rattle.le.proofs.Bytes.{length-bytesOf, number-at-append, number-at-bytesOf}
 use Rattle.le.proofs.Stores.{sets-append}
-use Rattle.le.specs.Number.{bytesOf, numberAt, numbersAt, runOf}
+use Rattle.le.specs.Number.{Fits, bytesOf, numberAt, numbersEach, numbersAt, runOf}
 
-pub length-numbers : (k n : ℕ) (s : List ℕ) (at : ℕ) → length (numbersAt k n s at) ≡ n
-unfolding numbersAt
-length-numbers k zero s at = refl
-length-numbers k (suc n) s at = ap suc (length-numbers k n s (at + k))
+pub length-numbers : (stride k n : ℕ) (s : List ℕ) (at : ℕ) → length (numbersEach stride k n s at) ≡ n
+unfolding numbersEach
+length-numbers stride k zero s at = refl
+length-numbers stride k (suc n) s at = ap suc (length-numbers stride k n s (at + stride))
 
 -- number i of them
-pub numbers-at : (k n : ℕ) (s : List ℕ) (at i : ℕ) → i < n → getD (numbersAt k n s at) i 0 ≡ numberAt k s (at + k * i)
-unfolding numbersAt
-numbers-at k zero s at i h = absurd (let z : 1 ≤ 0 = omega arith in omega arith)
-numbers-at k (suc n) s at zero h = ap (numberAt k s) (omega arith)
-numbers-at k (suc n) s at (suc i) h =
-    numbers-at k n s (at + k) i (omega arith) ∙ ap (numberAt k s) (let e : at + k + k * i ≡ at + k * suc i = omega arith in e)
+pub numbers-at : (stride k n : ℕ) (s : List ℕ) (at i : ℕ) → i < n → getD (numbersEach stride k n s at) i 0 ≡ numberAt k s (at + stride * i)
+unfolding numbersEach
+numbers-at stride k zero s at i h = absurd (let z : 1 ≤ 0 = omega arith in omega arith)
+numbers-at stride k (suc n) s at zero h = ap (numberAt k s) (omega arith)
+numbers-at stride k (suc n) s at (suc i) h =
+    numbers-at stride k n s (at + stride) i (omega arith) ∙ ap (numberAt k s) (let e : at + stride + stride * i ≡ at + stride * suc i = omega arith in e)
 
 -- all of them, and nothing behind
 pub run-whole : (k n : ℕ) (s : List ℕ) (at i : ℕ) (d : List ℕ) → i ≡ n → length d ≡ n → take i (numbersAt k n s at) ++ drop i d ≡ numbersAt k n s at
 run-whole k n s at i d e l =
     let f : i ≡ length d = omega arith in
     ap₂ (λ (a b : List ℕ). a ++ b)
-    (take-all i (numbersAt k n s at) (omega (arith, length-numbers k n s at)))
+    (take-all i (numbersAt k n s at) (omega (arith, length-numbers k k n s at)))
     (ap (λ (j : ℕ). drop j d) f ∙ drop-length d)
     ∙ append-nil (numbersAt k n s at)
 
@@ -76,15 +76,15 @@ bytes-more xs d t at i h e =
 
 -- a run behind other bytes
 pub numbers-append : (k n : ℕ) (a s : List ℕ) (at : ℕ) → numbersAt k n (a ++ s) (length a + at) ≡ numbersAt k n s at
-unfolding numbersAt
+unfolding numbersEach
 numbers-append k zero a s at = refl
 numbers-append k (suc n) a s at =
     let e : length a + at + k ≡ length a + (at + k) = omega arith in
     ap₂ _∷_ (number-at-append k a s at) (ap (numbersAt k n (a ++ s)) e ∙ numbers-append k n a s (at + k))
 
 -- a run that was put reads back, where each number fits
-pub numbers-run : (k : ℕ) (xs r : List ℕ) → ((i : ℕ) → getD xs i 0 < 2 ^ (8 * k)) → numbersAt k (length xs) (runOf k xs ++ r) 0 ≡ xs
-unfolding numbersAt runOf
+pub numbers-run : (k : ℕ) (xs r : List ℕ) → Fits (8 * k) xs → numbersAt k (length xs) (runOf k xs ++ r) 0 ≡ xs
+unfolding numbersEach runOf
 numbers-run k [] r h = refl
 numbers-run k (x ∷ xs) r h =
     let e : 0 + k ≡ length (bytesOf k x) + 0 = omega (arith, length-bytesOf k x) in

@@ -4,9 +4,13 @@ use Prim.Native.Nat.{ℕ, zero, suc, _+_, _*_, _/_, _%_, _^_, _<_}
 use mathlib.Core.List.{List, [], _∷_, _++_}
 use lib.ListN.{getD, take, drop}
 
+-- each of the list is a number of so many bits
+abbrev pub Fits : ℕ → List ℕ → Type 0
+Fits bits l = (i : ℕ) → getD l i 0 < 2 ^ bits
+
 -- each of the list is a byte
 abbrev pub Bytes : List ℕ → Type 0
-Bytes s = (i : ℕ) → getD s i 0 < 256
+Bytes s = Fits 8 s
 
 -- the number that bytes are, the first lowest
 unfoldable pub number : List ℕ → ℕ
@@ -22,10 +26,14 @@ bytesOf (suc k) x = x % 256 ∷ bytesOf k (x / 256)
 unfoldable pub numberAt : ℕ → List ℕ → ℕ → ℕ
 numberAt k s at = number (take k (drop at s))
 
--- n numbers of k bytes each, one after the other from place at on
-unfoldable pub numbersAt : ℕ → ℕ → List ℕ → ℕ → List ℕ
-numbersAt k zero s at = []
-numbersAt k (suc n) s at = numberAt k s at ∷ numbersAt k n s (at + k)
+-- n numbers of k bytes each, the first at place at and each next one a stride further on
+unfoldable pub numbersEach : ℕ → ℕ → ℕ → List ℕ → ℕ → List ℕ
+numbersEach stride k zero s at = []
+numbersEach stride k (suc n) s at = numberAt k s at ∷ numbersEach stride k n s (at + stride)
+
+-- one after the other
+abbrev pub numbersAt : ℕ → ℕ → List ℕ → ℕ → List ℕ
+numbersAt k n s at = numbersEach k k n s at
 
 -- numbers as bytes, k bytes each, one after the other
 unfoldable pub runOf : ℕ → List ℕ → List ℕ

@@ -88,7 +88,7 @@ pub fn window(s: &[u8], at: usize) -> u64
 }
 
 // The bits from bit place at on, where the place lies in the last byte or right behind it: what the window gives there, from that byte alone.
-pub fn rest(s: &[u8], at: usize) -> u64
+pub fn window_in_last_byte(s: &[u8], at: usize) -> u64
     requires { ⌜ (0 < length (now s)) × ((at + 7) / 8 ≡ length (now s)) ⌝ }
     ensures { λ r. ⌜ r ≡ field (number (now (s .entry))) at 64 ⌝ }
 {
@@ -109,7 +109,7 @@ pub fn field(s: &[u8], at: usize, w: u64) -> u64
 }
 
 // The window where its nine bytes are there.
-pub fn nine(s: &[u8], at: usize) -> u64
+pub fn window_within(s: &[u8], at: usize) -> u64
     requires { ⌜ at / 8 + 9 ≤ length (now s) ⌝ }
     ensures { λ r. ⌜ r ≡ field (number (now (s .entry))) at 64 ⌝ }
 {
@@ -120,7 +120,7 @@ pub fn nine(s: &[u8], at: usize) -> u64
 }
 
 // The field where its nine bytes are there; m is w ones.
-pub fn lead(s: &[u8], at: usize, w: u64, m: u64) -> u64
+pub fn field_within(s: &[u8], at: usize, w: u64, m: u64) -> u64
     requires { ⌜ (w ≤ 64) × (m ≡ 2 ^ w - 1) × (at / 8 + 9 ≤ length (now s)) ⌝ }
     ensures { λ r. ⌜ r ≡ field (number (now (s .entry))) at w ⌝ }
 {
@@ -128,11 +128,11 @@ pub fn lead(s: &[u8], at: usize, w: u64, m: u64) -> u64
         let k = (at % 8) as u64;
         return (u64_at(s, at / 8) >> k) & m;
     }
-    nine(s, at) & m
+    window_within(s, at) & m
 }
 
 // The field at a place in the last eight bytes, by the mask of its width. Past the end its bits are 0.
-pub fn closing(s: &[u8], at: usize, m: u64) -> u64
+pub fn field_in_last_eight(s: &[u8], at: usize, m: u64) -> u64
     requires { ⌜ (8 ≤ length (now s)) × (8 * (length (now s) - 8) ≤ at) × (at < 8 * length (now s)) ⌝ }
     ensures { λ r. ⌜ ((w : ℕ) → m ≡ 2 ^ w - 1 → r ≡ field (number (now (s .entry))) at w) ⌝ }
 {

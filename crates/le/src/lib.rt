@@ -1,5 +1,4 @@
-// Little-endian numbers and bit fields in bytes, read and written anywhere in a slice, and the heads of blocks.
+// Little-endian numbers and bit fields in bytes, read and written anywhere in a slice.
 pub mod bits;
-pub mod block;
 pub mod number;
 pub mod run;

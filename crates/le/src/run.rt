@@ -1,7 +1,8 @@
-// Runs of numbers: one after the other, as many as there is room for.
+// Runs of numbers: read, put and copied, one after the other.
+ghost use mathlib.Core.List.{_++_};
 ghost use mathlib.Core.Path.{_≡_};
 ghost use Prim.Native.Nat.{_+_, _*_, _≤_};
-ghost use lib.ListN.{length};
+ghost use lib.ListN.{length, drop};
 ghost use lib.Seq.{sets};
 ghost use Rattle.le.specs.Number.{numbersAt, runOf};
 use crate::number::put_u16;
@@ -56,6 +57,32 @@ pub fn put_bytes(d: &mut [u8], at: usize, xs: &[u8])
     let mut i: usize = 0;
     while i < n {
         d[at + i] = xs[i];
+        i += 1;
+    }
+}
+
+// Copies numbers of two bytes to the start of a room; the rest stays.
+pub fn copy_u16s(src: &[u16], dst: &mut [u16])
+    requires { ⌜ length (now src) ≤ length (now dst) ⌝ }
+    ensures { λ r. ⌜ now (dst .exit) ≡ now (src .entry) ++ drop (length (now (src .entry))) (now (dst .entry)) ⌝ }
+{
+    let n = src.len();
+    let mut i: usize = 0;
+    while i < n {
+        dst[i] = src[i];
+        i += 1;
+    }
+}
+
+// Copies numbers of eight bytes to the start of a room; the rest stays.
+pub fn copy_u64s(src: &[u64], dst: &mut [u64])
+    requires { ⌜ length (now src) ≤ length (now dst) ⌝ }
+    ensures { λ r. ⌜ now (dst .exit) ≡ now (src .entry) ++ drop (length (now (src .entry))) (now (dst .entry)) ⌝ }
+{
+    let n = src.len();
+    let mut i: usize = 0;
+    while i < n {
+        dst[i] = src[i];
         i += 1;
     }
 }

@@ -11,12 +11,12 @@ use lib.Dec.{leb, eqb, eqb·suc-suc}
 use lib.ListN.{length, getD, take, drop, length-drop, drop-of-length-le}
 use lib.Seq.{drop-cons, drop-drop, take-all}
 use Rattle.answer.proofs.Both.{not-true, both-l, both-r, first-fails, then}
-use Rattle.types.specs.declared.rows.Row.{Row}
-use Rattle.types.specs.Types.{typeRow}
+use Rattle.types.specs.declared.rows.TypeRow.{TypeRow}
+use Rattle.types.specs.Types.{lastType, typeRow}
 use Rattle.types.specs.Parts.{fits, lengthsFit, rowAgrees, shapeAgrees, partsAgree}
 
 -- what a row that agrees says
-pub row-parts-there : (r : Row) (c : ℕ) (lens : List ℕ) → rowAgrees r c lens ≡ true → c ≤ length lens
+pub row-parts-there : (r : TypeRow) (c : ℕ) (lens : List ℕ) → rowAgrees r c lens ≡ true → c ≤ length lens
 unfolding rowAgrees
 row-parts-there r c lens e =
     leb-true c (length lens) (both-l (leb c (length lens)) (lengthsFit r (take c lens)) (both-r (fits (r .«least_parts») (r .«most_parts») c) (leb c (length lens) && lengthsFit r (take c lens)) e))
@@ -24,7 +24,7 @@ row-parts-there r c lens e =
 -- a shape that agrees has its parts among those left
 pub parts-there : (t c : ℕ) (lens : List ℕ) → shapeAgrees t c lens ≡ true → c ≤ length lens
 unfolding shapeAgrees
-parts-there t c lens e = row-parts-there (typeRow t) c lens (both-r (leb t 6) (rowAgrees (typeRow t) c lens) e)
+parts-there t c lens e = row-parts-there (typeRow t) c lens (both-r (leb t lastType) (rowAgrees (typeRow t) c lens) e)
 
 -- lists of unequal length never agree
 pub agree-even : (types counts lens : List ℕ) → partsAgree types counts lens ≡ true → length types ≡ length counts

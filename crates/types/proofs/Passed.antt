@@ -11,9 +11,9 @@ use Rattle.answer.specs.Table.{parts}
 use Rattle.answer.specs.Outcome.{ok}
 use Rattle.answer.proofs.Rules.{rule-ok}
 use Rattle.answer.proofs.Both.{both, both-l, both-r}
-use Rattle.types.specs.declared.rows.Row.{Row}
-use Rattle.answer.specs.Every.{allOf}
-use Rattle.types.specs.Types.{typeRow}
+use Rattle.types.specs.declared.rows.TypeRow.{TypeRow}
+use Rattle.answer.specs.All.{allOf}
+use Rattle.types.specs.Types.{lastType, typeRow}
 use Rattle.types.specs.Parts.{total, fits, lengthsFit, rowAgrees, shapeAgrees, partsAgree, partsHold, partsRule}
 use Rattle.answer.proofs.Alls.{all-none, all-append, all-imp}
 use Rattle.types.proofs.Tabled.{one-vertex}
@@ -45,7 +45,7 @@ fits-most least most n e = leb-true n most (both-r (leb least n) (leb n most) e)
 
 -- a shape of type t with c parts, the first of those left, that goes by the table
 pub record InTable (t c : ℕ) (lens : List ℕ) : Type 0 where
-  pub known : t ≤ 6
+  pub known : t ≤ lastType
   pub parts : fits (typeRow t .«least_parts») (typeRow t .«most_parts») c ≡ true
   pub there : c ≤ length lens
   pub lengths : lengthsFit (typeRow t) (take c lens) ≡ true
@@ -54,9 +54,9 @@ pub shape-says : (t c : ℕ) (lens : List ℕ) → shapeAgrees t c lens ≡ true
 unfolding shapeAgrees rowAgrees
 shape-says t c lens e =
     let r = typeRow t in
-    let row = both-r (leb t 6) (rowAgrees r c lens) e in
+    let row = both-r (leb t lastType) (rowAgrees r c lens) e in
     let own = both-r (fits (r .«least_parts») (r .«most_parts») c) (leb c (length lens) && lengthsFit r (take c lens)) row in record {
-      known = leb-true t 6 (both-l (leb t 6) (rowAgrees r c lens) e);
+      known = leb-true t lastType (both-l (leb t lastType) (rowAgrees r c lens) e);
       parts = both-l (fits (r .«least_parts») (r .«most_parts») c) (leb c (length lens) && lengthsFit r (take c lens)) row;
       there = leb-true c (length lens) (both-l (leb c (length lens)) (lengthsFit r (take c lens)) own);
       lengths = both-r (leb c (length lens)) (lengthsFit r (take c lens)) own;
@@ -97,16 +97,16 @@ agree-counts (t ∷ ts) (c ∷ cs) lens e =
 -- those of one shape: it has no part, or its row's least is one or more
 own-full : (t c : ℕ) (lens : List ℕ) → InTable t c lens → allOf (leb 1) (take c lens) ≡ true
 own-full t zero lens s = all-none (leb 1)
-own-full t (suc c) lens s = all-imp (fits (r .least) (r .most)) (leb 1) (take (suc c) lens) longer (unfold lengthsFit in s .lengths)
+own-full t (suc c) lens s = all-imp (fits (r .«least_vertices») (r .«most_vertices»)) (leb 1) (take (suc c) lens) longer (unfold lengthsFit in s .lengths)
   where
-    r : Row
+    r : TypeRow
     r = typeRow t
 
-    one : 1 ≤ typeRow t .least
+    one : 1 ≤ typeRow t .«least_vertices»
     one = one-vertex t (s .known) (omega (arith, fits-most (typeRow t .«least_parts») (typeRow t .«most_parts») (suc c) (s .parts)))
 
-    longer : (n : ℕ) → fits (typeRow t .least) (typeRow t .most) n ≡ true → leb 1 n ≡ true
-    longer n e = le-leb 1 n (omega (arith, one, fits-least (typeRow t .least) (typeRow t .most) n e))
+    longer : (n : ℕ) → fits (typeRow t .«least_vertices») (typeRow t .«most_vertices») n ≡ true → leb 1 n ≡ true
+    longer n e = le-leb 1 n (omega (arith, one, fits-least (typeRow t .«least_vertices») (typeRow t .«most_vertices») n e))
 
 -- and those of a page
 pub agree-full : (types counts lens : List ℕ) → partsAgree types counts lens ≡ true → allOf (leb 1) lens ≡ true

@@ -8,9 +8,9 @@ use lib.ListN.{length, take, drop}
 use Rattle.answer.specs.Table.{parts}
 use Rattle.answer.specs.Outcome.{Out}
 use Rattle.answer.specs.Rule.{rule}
-use Rattle.types.specs.declared.rows.Row.{Row}
-use Rattle.answer.specs.Every.{allOf}
-use Rattle.types.specs.Types.{typeRow}
+use Rattle.types.specs.declared.rows.TypeRow.{TypeRow}
+use Rattle.answer.specs.All.{allOf}
+use Rattle.types.specs.Types.{lastType, typeRow}
 
 -- the sum
 unfoldable pub total : List ℕ → ℕ
@@ -22,16 +22,16 @@ unfoldable pub fits : ℕ → ℕ → ℕ → Bool
 fits least most n = leb least n && leb n most
 
 -- each part has as many vertices as the row says
-unfoldable pub lengthsFit : Row → List ℕ → Bool
-lengthsFit r lens = allOf (fits (r .least) (r .most)) lens
+unfoldable pub lengthsFit : TypeRow → List ℕ → Bool
+lengthsFit r lens = allOf (fits (r .«least_vertices») (r .«most_vertices»)) lens
 
 -- c parts, and each of them, go by a row; the parts are there, the first of those left
-unfoldable pub rowAgrees : Row → ℕ → List ℕ → Bool
+unfoldable pub rowAgrees : TypeRow → ℕ → List ℕ → Bool
 rowAgrees r c lens = fits (r .«least_parts») (r .«most_parts») c && (leb c (length lens) && lengthsFit r (take c lens))
 
 -- a shape of type t with c parts goes by the table
 unfoldable pub shapeAgrees : ℕ → ℕ → List ℕ → Bool
-shapeAgrees t c lens = leb t 6 && rowAgrees (typeRow t) c lens
+shapeAgrees t c lens = leb t lastType && rowAgrees (typeRow t) c lens
 
 -- shape by shape, each with its own parts, and no part left
 unfoldable pub partsAgree : List ℕ → List ℕ → List ℕ → Bool

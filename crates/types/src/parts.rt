@@ -4,7 +4,8 @@ ghost use Prim.Native.Nat.{_<_};
 ghost use lib.Dec.{eqb};
 ghost use Rattle.answer.specs.Rule.{judged};
 ghost use Rattle.types.specs.Parts.{total, fits, lengthsFit, rowAgrees, shapeAgrees, partsAgree, partsHold, partsRule};
-use crate::rows::Row;
+use crate::rows::MULTI_POLYGON;
+use crate::rows::TypeRow;
 use crate::rows::row_of;
 use answer::Verdict;
 use answer::table::PARTS;
@@ -51,12 +52,12 @@ fn fits(least: u16, most: u16, n: u16) -> bool
 }
 
 // Whether each part has as many vertices as the row says.
-fn lengths_fit(r: Row, lens: &[u16]) -> bool
+fn lengths_fit(r: TypeRow, lens: &[u16]) -> bool
     ensures { λ b. ⌜ b ≡ lengthsFit r (now (lens .entry)) ⌝ }
 {
     let mut i: usize = 0;
     while i < lens.len() {
-        if !fits(r.least, r.most, lens[i]) {
+        if !fits(r.least_vertices, r.most_vertices, lens[i]) {
             return false;
         }
         i += 1;
@@ -65,7 +66,7 @@ fn lengths_fit(r: Row, lens: &[u16]) -> bool
 }
 
 // Whether c parts, the first of those left, go by a row.
-fn row_agrees(r: Row, c: u16, lens: &[u16]) -> bool
+fn row_agrees(r: TypeRow, c: u16, lens: &[u16]) -> bool
     ensures { λ b. ⌜ b ≡ rowAgrees r c (now (lens .entry)) ⌝ }
 {
     if !fits(r.least_parts, r.most_parts, c) {
@@ -82,7 +83,7 @@ fn row_agrees(r: Row, c: u16, lens: &[u16]) -> bool
 fn shape_agrees(t: u8, c: u16, lens: &[u16]) -> bool
     ensures { λ r. ⌜ r ≡ shapeAgrees t c (now (lens .entry)) ⌝ }
 {
-    if t <= 6 {
+    if t <= MULTI_POLYGON {
         return row_agrees(row_of(t), c, lens);
     }
     false

@@ -1,81 +1,104 @@
-// The table of the types: for each, how many parts, how many vertices in each part, and whether the parts are closed.
+// The table of the types: for each, how many parts, how many vertices in each part, and whether the parts are rings.
 ghost use mathlib.Core.Path.{_≡_};
 ghost use Prim.Native.Nat.{_≤_};
-ghost use Rattle.types.specs.Types.{typeRow};
+ghost use Rattle.types.specs.Types.{lastType, typeRow};
 
-// A row: least and most parts, least and most vertices in each part, closed or not.
-pub struct Row {
+// The types.
+pub const EMPTY: u8 = 0;
+
+pub const POINT: u8 = 1;
+
+pub const LINE_STRING: u8 = 2;
+
+pub const POLYGON: u8 = 3;
+
+pub const MULTI_POINT: u8 = 4;
+
+pub const MULTI_LINE_STRING: u8 = 5;
+
+pub const MULTI_POLYGON: u8 = 6;
+
+// A row: least and most parts; least and most vertices in each part; and whether each part is a ring.
+pub struct TypeRow {
     pub least_parts: u16,
     pub most_parts: u16,
-    pub least: u16,
-    pub most: u16,
-    pub closed: bool,
+    pub least_vertices: u16,
+    pub most_vertices: u16,
+    pub rings: bool,
 }
 
 // "Or more": the most that a part count or a part length can say.
-pub const MORE: u16 = 65535;
+const MORE: u16 = 65535;
 
-// The least vertices of a line; and of a ring, three corners and the first of them again.
-pub const LINE: u16 = 2;
+// The least vertices of a line.
+const LINE_VERTICES: u16 = 2;
 
-pub const RING: u16 = 4;
+// The least vertices of a ring: three corners, and the first of them again.
+const RING_VERTICES: u16 = 4;
 
-// The rows by type: empty, Point, LineString, Polygon, MultiPoint, MultiLineString, MultiPolygon.
-pub const ROWS: [Row; 7] = [
-    Row {
+// The rows by type.
+const ROWS: [TypeRow; 7] = [
+    // 0: empty
+    TypeRow {
         least_parts: 0,
         most_parts: 0,
-        least: 0,
-        most: 0,
-        closed: false,
+        least_vertices: 0,
+        most_vertices: 0,
+        rings: false,
     },
-    Row {
+    // 1: Point
+    TypeRow {
         least_parts: 1,
         most_parts: 1,
-        least: 1,
-        most: 1,
-        closed: false,
+        least_vertices: 1,
+        most_vertices: 1,
+        rings: false,
     },
-    Row {
+    // 2: LineString
+    TypeRow {
         least_parts: 1,
         most_parts: 1,
-        least: LINE,
-        most: MORE,
-        closed: false,
+        least_vertices: LINE_VERTICES,
+        most_vertices: MORE,
+        rings: false,
     },
-    Row {
+    // 3: Polygon
+    TypeRow {
         least_parts: 1,
         most_parts: MORE,
-        least: RING,
-        most: MORE,
-        closed: true,
+        least_vertices: RING_VERTICES,
+        most_vertices: MORE,
+        rings: true,
     },
-    Row {
+    // 4: MultiPoint
+    TypeRow {
         least_parts: 1,
         most_parts: MORE,
-        least: 1,
-        most: 1,
-        closed: false,
+        least_vertices: 1,
+        most_vertices: 1,
+        rings: false,
     },
-    Row {
+    // 5: MultiLineString
+    TypeRow {
         least_parts: 1,
         most_parts: MORE,
-        least: LINE,
-        most: MORE,
-        closed: false,
+        least_vertices: LINE_VERTICES,
+        most_vertices: MORE,
+        rings: false,
     },
-    Row {
+    // 6: MultiPolygon
+    TypeRow {
         least_parts: 1,
         most_parts: MORE,
-        least: RING,
-        most: MORE,
-        closed: true,
+        least_vertices: RING_VERTICES,
+        most_vertices: MORE,
+        rings: true,
     },
 ];
 
 // The row of a type.
-pub fn row_of(t: u8) -> Row
-    requires { ⌜ t ≤ 6 ⌝ }
+pub fn row_of(t: u8) -> TypeRow
+    requires { ⌜ t ≤ lastType ⌝ }
     ensures { λ r. ⌜ r ≡ typeRow t ⌝ }
 {
     ROWS[t as usize]

@@ -50,8 +50,8 @@ loop-again c =
     let l = c .before .before .loop in
     let st = c .before .before .before .before .before in
     let src = numbersAt 2 (length (st .args .d .now)) (st .args .s .now) (st .args .at) in
-    let h : l .i < length src = omega (arith, length-numbers 2 (length (st .args .d .now)) (st .args .s .now) (st .args .at)) in
-    let e : c .u16-at .result ≡ getD src (l .i) 0 = c .u16-at .ensures .0 ∙ sym (numbers-at 2 (length (st .args .d .now)) (st .args .s .now) (st .args .at) (l .i) (omega arith)) in (
+    let h : l .i < length src = omega (arith, length-numbers 2 2 (length (st .args .d .now)) (st .args .s .now) (st .args .at)) in
+    let e : c .u16-at .result ≡ getD src (l .i) 0 = c .u16-at .ensures .0 ∙ sym (numbers-at 2 2 (length (st .args .d .now)) (st .args .s .now) (st .args .at) (l .i) (omega arith)) in (
       omega arith,
       length-set (l .d) (l .i) _ ∙ l .inv .1,
       ap (set (l .d) (l .i)) e ∙ copy-more src (st .args .d .now) (l .d) (l .i) (omega arith) h (l .inv .2),

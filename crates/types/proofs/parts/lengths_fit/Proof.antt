@@ -5,14 +5,14 @@ use native.Mathlib.Omega.{arith}
 use borrow.Author.Needs.{needs}
 use borrow.Author.Tests.{not-true, not-false}
 use lib.ListN.{length, drop, drop-of-length-le}
-use Rattle.answer.specs.Every.{allOf}
+use Rattle.answer.specs.All.{allOf}
 use Rattle.types.specs.Parts.{fits, lengthsFit}
 use Rattle.answer.proofs.Alls.{stands, all-more, all-stop, all-done}
 use Rattle.types.proofs.parts.lengths_fit.Statement.{statement}
 use Rattle.types.proofs.parts.lengths_fit.Tie as tie
 
 abbrev Inv-loop : tie.InvT-loop
-Inv-loop r lens i₀ i = (i ≤ length lens) × (allOf (fits (r .least) (r .most)) (drop i lens) ≡ allOf (fits (r .least) (r .most)) lens)
+Inv-loop r lens i₀ i = (i ≤ length lens) × (allOf (fits (r .«least_vertices») (r .«most_vertices»)) (drop i lens) ≡ allOf (fits (r .«least_vertices») (r .«most_vertices»)) lens)
 
 abbrev μ-loop : tie.MeasureT-loop
 μ-loop r lens i₀ i = length lens - i
@@ -34,7 +34,7 @@ unfolding lengthsFit
 returns c =
     let l = c .before .before .before .before .loop in
     let a = c .before .before .before .before .before .before .args in
-    all-stop (fits (a .r .least) (a .r .most)) (a .lens .now) (l .i) _ (stands (a .lens .now) (l .i) 0 (c .before .before .before .loop-test .taken)) (sym (c .before .fits2 .ensures) ∙ not-true _ (c .if1 .taken)) (l .inv .1)
+    all-stop (fits (a .r .«least_vertices») (a .r .«most_vertices»)) (a .lens .now) (l .i) _ (stands (a .lens .now) (l .i) 0 (c .before .before .before .loop-test .taken)) (sym (c .before .fits2 .ensures) ∙ not-true _ (c .if1 .taken)) (l .inv .1)
 
 add-i : tie.Need-add-i Inv-loop μ-loop
 add-i c = omega arith
@@ -46,13 +46,13 @@ loop-again : tie.Need-loop-again Inv-loop μ-loop
 loop-again c =
     let l = c .before .before .before .before .loop in
     let a = c .before .before .before .before .before .before .args in
-    (omega arith, all-more (fits (a .r .least) (a .r .most)) (a .lens .now) (l .i) _ (stands (a .lens .now) (l .i) 0 (c .before .before .before .loop-test .taken)) (sym (c .before .fits2 .ensures) ∙ not-false _ (c .if1 .left)) (l .inv .1))
+    (omega arith, all-more (fits (a .r .«least_vertices») (a .r .«most_vertices»)) (a .lens .now) (l .i) _ (stands (a .lens .now) (l .i) 0 (c .before .before .before .loop-test .taken)) (sym (c .before .fits2 .ensures) ∙ not-false _ (c .if1 .left)) (l .inv .1))
 
 returns-2 : tie.Need-returns-2 Inv-loop μ-loop
 unfolding lengthsFit
 returns-2 c =
     let a = c .before .before .before .args in
-    all-done (fits (a .r .least) (a .r .most)) (a .lens .now) (c .before .loop .i) (drop-of-length-le (a .lens .now) {i = c .before .loop .i} (c .loop-test .left)) (c .before .loop .inv .1)
+    all-done (fits (a .r .«least_vertices») (a .r .«most_vertices»)) (a .lens .now) (c .before .loop .i) (drop-of-length-le (a .lens .now) {i = c .before .loop .i} (c .loop-test .left)) (c .before .loop .inv .1)
 
 pub lengths-fit-spec : {M : Type 1} → statement M
 lengths-fit-spec =

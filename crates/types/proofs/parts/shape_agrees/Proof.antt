@@ -1,7 +1,7 @@
 -- `types::parts::shape_agrees` looks up the row of a type that there is. Assumes nothing.
 use mathlib.Core.Path.{ap, _∙_}
 use borrow.Author.Tests.{le-leb, lt-leb}
-use Rattle.types.specs.declared.rows.Row.{Row}
+use Rattle.types.specs.declared.rows.TypeRow.{TypeRow}
 use Rattle.types.specs.Parts.{rowAgrees, shapeAgrees}
 use Rattle.answer.proofs.Both.{first-fails, then}
 use borrow.Author.Needs.{needs}
@@ -18,7 +18,7 @@ returns : tie.Need-returns
 unfolding shapeAgrees
 returns c =
     let a = c .before .before .before .before .args in
-    then _ _ _ (le-leb _ _ (c .before .before .if1 .taken)) (c .row-agrees .ensures ∙ ap (λ (r : Row). rowAgrees r (a .c) (a .lens .now)) (c .before .row-of .ensures))
+    then _ _ _ (le-leb _ _ (c .before .before .if1 .taken)) (c .row-agrees .ensures ∙ ap (λ (r : TypeRow). rowAgrees r (a .c) (a .lens .now)) (c .before .row-of .ensures))
 
 returns-2 : tie.Need-returns-2
 unfolding shapeAgrees

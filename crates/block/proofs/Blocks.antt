@@ -13,13 +13,13 @@ use Rattle.answer.specs.Refusal.{because}
 use Rattle.answer.specs.Outcome.{refused, ok}
 use Rattle.answer.proofs.Outcomes.{never, ok-inj, refused-inj, met, unmet, need-ok}
 use Rattle.answer.proofs.Both.{both-r}
-use Rattle.le.specs.declared.block.Block.{Block}
-use Rattle.le.specs.declared.block.BlockRead.{BlockRead}
-use Rattle.le.specs.declared.block.BlockRead.the-variants.{Found, Refused}
+use Rattle.block.specs.declared.Block.{Block}
+use Rattle.block.specs.declared.BlockRead.{BlockRead}
+use Rattle.block.specs.declared.BlockRead.the-variants.{Found, Refused}
 use Rattle.le.specs.Number.{numberAt, bytesOf}
-use Rattle.le.specs.Block.{presentAt, blockAt, saidBlock, blockHead}
+use Rattle.block.specs.Block.{presentAt, blockAt, saidBlock, blockHead}
 use Rattle.le.proofs.Bytes.{length-bytesOf, number-at-append, number-at-bytesOf}
 use Rattle.le.proofs.Stores.{sets-append}
 
 -- ---- what is present
 

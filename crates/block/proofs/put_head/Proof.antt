@@ -4,10 +4,10 @@ use mathlib.Core.Path.{ap, _∙_}
 use mathlib.Core.List.{List}
 use lib.Seq.{sets}
 use borrow.Author.Needs.{needs}
 use Rattle.le.specs.Number.{bytesOf}
-use Rattle.le.proofs.Blocks.{put-head}
-use Rattle.le.proofs.block.put_head.Statement.{statement}
-use Rattle.le.proofs.block.put_head.Tie as tie
+use Rattle.block.proofs.Blocks.{put-head}
+use Rattle.block.proofs.put_head.Statement.{statement}
+use Rattle.block.proofs.put_head.Tie as tie
 
 put-u32-requires : tie.Need-put-u32-requires
 put-u32-requires c κs = search needs

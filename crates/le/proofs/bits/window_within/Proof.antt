@@ -1,4 +1,4 @@
--- `nine` gives the 64 bits from a bit place on, from nine bytes that are there. Assumes nothing.
+-- `window_within` gives the 64 bits from a bit place on, from nine bytes that are there. Assumes nothing.
 use mathlib.Core.Path.{sym, _∙_}
 use Prim.Native.Nat.{_+_, _/_}
 use native.Mathlib.Omega.{arith}
@@ -6,8 +6,8 @@ use Rattle.le.specs.Number.{number}
 use Rattle.le.proofs.Numbers.{byte-at, number-at}
 use Rattle.le.proofs.Fields.{nine-law}
 use borrow.Author.Needs.{needs}
-use Rattle.le.proofs.bits.nine.Statement.{statement}
-use Rattle.le.proofs.bits.nine.Tie as tie
+use Rattle.le.proofs.bits.window_within.Statement.{statement}
+use Rattle.le.proofs.bits.window_within.Tie as tie
 
 add-wide : tie.Need-add-wide
 add-wide c = search needs
@@ -39,8 +39,8 @@ returns c =
     nine-law (number (a .s .now)) (a .at) (c .before .wide .result) (c .u64-at .result)
     (c .before .wide .ensures ∙ sym (byte-at (a .s .now) (a .at / 8 + 8) (λ i. c .before .before .shared-slice-known2 .given i .fits))) (c .u64-at .ensures ∙ number-at 8 _ _ (λ i. c .before .before .shared-slice-known2 .given i .fits))
 
-pub nine-spec : {M : Type 1} → statement M
-nine-spec =
+pub window-within-spec : {M : Type 1} → statement M
+window-within-spec =
     tie.close
     (tie.spec
     add-wide

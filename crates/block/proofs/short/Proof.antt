@@ -2,9 +2,9 @@
 use mathlib.Core.Path.{ap}
 use borrow.Author.Needs.{needs}
 use Rattle.answer.specs.Outcome.{refused}
-use Rattle.le.specs.Block.{saidBlock}
-use Rattle.le.proofs.block.short.Statement.{statement}
-use Rattle.le.proofs.block.short.Tie as tie
+use Rattle.block.specs.Block.{saidBlock}
+use Rattle.block.proofs.short.Statement.{statement}
+use Rattle.block.proofs.short.Tie as tie
 
 because-requires : tie.Need-because-requires
 because-requires c κs = search needs

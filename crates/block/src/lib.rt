@@ -1,4 +1,4 @@
-// A block's head. All numbers little-endian. Each block: length of the body (u32), kind (u16), body.
+// Blocks, by their heads. All numbers little-endian. Each block: length of the body (u32), kind (u16), body.
 ghost use mathlib.Core.Path.{_≡_};
 ghost use mathlib.Core.Bool.{true};
 ghost use Prim.Native.Nat.{_+_, _≤_};
@@ -7,13 +7,18 @@ ghost use lib.Seq.{sets};
 ghost use Rattle.answer.specs.Table.{lengths};
 ghost use Rattle.answer.specs.Refusal.{because};
 ghost use Rattle.answer.specs.Outcome.{refused, ok};
-ghost use Rattle.le.specs.Block.{presentAt, blockAt, saidBlock, blockHead};
-use crate::number::put_u16;
-use crate::number::put_u32;
-use crate::number::u16_at;
-use crate::number::u32_at;
+ghost use Rattle.block.specs.Block.{headBytes, kindAt, presentAt, blockAt, saidBlock, blockHead};
 use answer::Refusal;
 use answer::table::LENGTHS;
+use le::number::put_u16;
+use le::number::put_u32;
+use le::number::u16_at;
+use le::number::u32_at;
+
+pub mod kinds;
+
+// The bytes of a head: four of the length, two of the kind.
+pub const HEAD: usize = 6;
 
 // A block: its kind, the place of its body's first byte, and the body's length.
 pub struct Block {
@@ -40,17 +45,25 @@ pub fn present(s: &[u8], at: usize) -> bool
     ensures { λ r. ⌜ r ≡ presentAt (now (s .entry)) at ⌝ }
 {
     let n = s.len();
-    if n < 6 {
+    if n < HEAD {
         return false;
     }
-    if n - 6 < at {
+    if n - HEAD < at {
         return false;
     }
-    let body = at + 6;
+    let body = at + HEAD;
     if n - body < u32_at(s, at) {
         return false;
     }
     true
+}
+
+// The kind that the head at a place says.
+pub fn kind_at(s: &[u8], at: usize) -> usize
+    requires { ⌜ at + headBytes ≤ length (now s) ⌝ }
+    ensures { λ r. ⌜ r ≡ kindAt (now (s .entry)) at ⌝ }
+{
+    u16_at(s, at + 4)
 }
 
 // The block that is present at a place.
@@ -59,8 +72,8 @@ pub fn block_in(s: &[u8], at: usize) -> Block
     ensures { λ r. ⌜ blockAt (now (s .entry)) at ≡ ok r ⌝ }
 {
     Block {
-        kind: u16_at(s, at + 4),
-        body: at + 6,
+        kind: kind_at(s, at),
+        body: at + HEAD,
         len: u32_at(s, at),
     }
 }
@@ -76,10 +89,10 @@ pub fn block_at(s: &[u8], at: usize) -> BlockRead
 }
 
 // Puts a block's head from place at on; the rest stays.
-pub fn put_head(d: &mut [u8], at: usize, len: u64, kind: u64)
-    requires { ⌜ at + 6 ≤ length (now d) ⌝ }
+pub fn put_head(d: &mut [u8], at: usize, len: usize, kind: usize)
+    requires { ⌜ at + headBytes ≤ length (now d) ⌝ }
     ensures { λ r. ⌜ now (d .exit) ≡ sets (now (d .entry)) at (blockHead len kind) ⌝ }
 {
-    put_u32(d, at, len);
-    put_u16(d, at + 4, kind);
+    put_u32(d, at, len as u64);
+    put_u16(d, at + 4, kind as u64);
 }

@@ -1,4 +1,4 @@
--- `le::bits::closing` takes the field from the last eight bytes, which have all the bits from its place on. Nothing is assumed.
+-- `le::bits::field_in_last_eight` takes the field from the last eight bytes, which have all the bits from its place on. Nothing is assumed.
 use mathlib.Core.Path.{ap, ap₂, _∙_}
 use Prim.Native.Nat.{ℕ, _-_, _*_, _/_, _^_}
 use native.Mathlib.Omega.{arith}
@@ -7,8 +7,8 @@ use lib.ListN.{length}
 use borrow.Author.Needs.{needs}
 use Rattle.le.specs.Number.{Bytes, number}
 use Rattle.le.proofs.Numbers.{number-at, closing-law}
-use Rattle.le.proofs.bits.closing.Statement.{statement}
-use Rattle.le.proofs.bits.closing.Tie as tie
+use Rattle.le.proofs.bits.field_in_last_eight.Statement.{statement}
+use Rattle.le.proofs.bits.field_in_last_eight.Tie as tie
 
 sub-from : tie.Need-sub-from
 sub-from c = search needs
@@ -35,6 +35,6 @@ returns c =
     let word = c .u64-at .ensures ∙ number-at 8 s f h in
     λ w e. ap₂ bitAnd (ap (λ (x : ℕ). x / 2 ^ (at - 8 * f)) word ∙ closing-law s f at h (omega (arith, st .pre .0)) (st .pre .1)) e ∙ and-mask (number s / 2 ^ at) w
 
-pub closing-spec : {M : Type 1} → statement M
-closing-spec =
+pub field-in-last-eight-spec : {M : Type 1} → statement M
+field-in-last-eight-spec =
     tie.close (tie.spec sub-from u64-at-requires mul-result sub-result shr-result returns)

@@ -1,4 +1,4 @@
--- `le::bits::rest` gives what is left of the last byte. Nothing is assumed.
+-- `le::bits::window_in_last_byte` gives what is left of the last byte. Nothing is assumed.
 use mathlib.Core.Path.{ap, _∙_}
 use Prim.Native.Nat.{ℕ, _-_, _*_, _/_, _^_}
 use native.Mathlib.Omega.{arith}
@@ -6,8 +6,8 @@ use lib.ListN.{length}
 use borrow.Author.Needs.{needs}
 use Rattle.le.specs.Number.{Bytes}
 use Rattle.le.proofs.Numbers.{rest-law}
-use Rattle.le.proofs.bits.rest.Statement.{statement}
-use Rattle.le.proofs.bits.rest.Tie as tie
+use Rattle.le.proofs.bits.window_in_last_byte.Statement.{statement}
+use Rattle.le.proofs.bits.window_in_last_byte.Tie as tie
 
 sub-i : tie.Need-sub-i
 sub-i c = search needs
@@ -35,7 +35,7 @@ returns c =
     let h : Bytes (a .s .now) = λ j. c .before .before .shared-slice-known .given j .fits in
     ap (λ (x : ℕ). x / 2 ^ (a .at - 8 * i)) (c .wide .ensures) ∙ rest-law (a .s .now) i (a .at) h (omega arith) (omega (arith, st .pre .0, st .pre .1))
 
-pub rest-spec : {M : Type 1} → statement M
-rest-spec =
+pub window-in-last-byte-spec : {M : Type 1} → statement M
+window-in-last-byte-spec =
     tie.close
     (tie.spec sub-i shared-slice-read-wide wide-requires mul-result sub-result shr-result returns)

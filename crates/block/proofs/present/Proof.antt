@@ -2,9 +2,9 @@
 use mathlib.Core.Path.{sym}
 use native.Mathlib.Omega.{arith}
 use borrow.Author.Needs.{needs}
-use Rattle.le.proofs.Blocks.{present-cut, present-short, present-whole}
-use Rattle.le.proofs.block.present.Statement.{statement}
-use Rattle.le.proofs.block.present.Tie as tie
+use Rattle.block.proofs.Blocks.{present-cut, present-short, present-whole}
+use Rattle.block.proofs.present.Statement.{statement}
+use Rattle.block.proofs.present.Tie as tie
 
 returns : tie.Need-returns
 returns c = sym (present-cut _ _ (omega arith))

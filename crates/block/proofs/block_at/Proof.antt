@@ -1,10 +1,10 @@
 -- `block_at` reads the block where it is present. Assumes nothing.
 use mathlib.Core.Path.{sym, _∙_}
 use borrow.Author.Needs.{needs}
-use Rattle.le.specs.Block.{saidBlock}
-use Rattle.le.proofs.Blocks.{block-absent}
-use Rattle.le.proofs.block.block_at.Statement.{statement}
-use Rattle.le.proofs.block.block_at.Tie as tie
+use Rattle.block.specs.Block.{saidBlock}
+use Rattle.block.proofs.Blocks.{block-absent}
+use Rattle.block.proofs.block_at.Statement.{statement}
+use Rattle.block.proofs.block_at.Tie as tie
 
 present-requires : tie.Need-present-requires
 present-requires c κs = search needs
