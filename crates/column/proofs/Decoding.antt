@@ -21,7 +21,7 @@ use Rattle.le.specs.Number.{number, field, Bytes}
 use Rattle.le.proofs.Numbers.{number-lt}
 use Rattle.entry.proofs.Reading.{length-values}
 use Rattle.column.specs.Column.{whole}
-use Rattle.column.specs.Read.{saidBy, endOf, closed, someOf, decodeOf, readOf, scratchOf, Decodes}
+use Rattle.column.specs.Read.{saidBy, endOf, endRules, someOf, decodeOf, readOf, scratchOf, Decodes}
 
 pub length-said : (P : ℕ) (s : List ℕ) (n : ℕ) → 0 < n → length (saidBy P s n) ≡ n
 unfolding saidBy
@@ -30,17 +30,17 @@ length-said P s n h = ap suc (length-values P (number s) (getD s 0 0) (n - 1) (8
 -- ---- the rules of the end
 
 module _ {A : Type 0} (s : List ℕ) (e : ℕ) (x : Out A) where
-  pub closed-bits : (whole e ≡ length s → ⊥) → closed s e x ≡ refused (because Table.bits)
-  unfolding closed
-  closed-bits h = unmet _ _ (ne-eqb _ _ h)
+  pub ending-bits : (whole e ≡ length s → ⊥) → endRules s e x ≡ refused (because Table.bits)
+  unfolding endRules
+  ending-bits h = unmet _ _ (ne-eqb _ _ h)
 
-  pub closed-fill : whole e ≡ length s → 2 ^ e ≤ number s → closed s e x ≡ refused (because Table.fill)
-  unfolding closed
-  closed-fill h l = met _ _ (eq-eqb _ _ h) ∙ unmet _ _ (le-ltb _ _ l)
+  pub ending-fill : whole e ≡ length s → 2 ^ e ≤ number s → endRules s e x ≡ refused (because Table.fill)
+  unfolding endRules
+  ending-fill h l = met _ _ (eq-eqb _ _ h) ∙ unmet _ _ (le-ltb _ _ l)
 
-  pub closed-good : whole e ≡ length s → number s < 2 ^ e → closed s e x ≡ x
-  unfolding closed
-  closed-good h l = met _ _ (eq-eqb _ _ h) ∙ met _ _ (lt-ltb _ _ l)
+  pub ending-good : whole e ≡ length s → number s < 2 ^ e → endRules s e x ≡ x
+  unfolding endRules
+  ending-good h l = met _ _ (eq-eqb _ _ h) ∙ met _ _ (lt-ltb _ _ l)
 
 -- the 64 bits after the end are all that can be left of the bytes
 module _ (s : List ℕ) (e : ℕ) (h : Bytes s) (l : whole e ≡ length s) where
@@ -60,17 +60,17 @@ module _ (s : List ℕ) (e : ℕ) (h : Bytes s) (l : whole e ≡ length s) where
 -- ---- decoding, by its outcome
 
 module _ (P : ℕ) (s : List ℕ) (n : ℕ) where
-  pub decode-zero : n ≡ 0 → decodeOf P s n ≡ closed s 0 (ok [])
+  pub decode-zero : n ≡ 0 → decodeOf P s n ≡ endRules s 0 (ok [])
   unfolding decodeOf
   decode-zero e = simp (eq-eqb _ _ e)
 
   pub decode-none : n ≡ 0 → length s ≡ 0 → Bytes s → decodeOf P s n ≡ ok []
   decode-none e l h =
       let z : 8 * length s ≤ 0 = omega arith in
-      decode-zero e ∙ closed-good s 0 (ok []) (sym l) (lt-of-lt-of-le (number-lt s h) (pow-mono z))
+      decode-zero e ∙ ending-good s 0 (ok []) (sym l) (lt-of-lt-of-le (number-lt s h) (pow-mono z))
 
   pub decode-none-bits : n ≡ 0 → (length s ≡ 0 → ⊥) → decodeOf P s n ≡ refused (because Table.bits)
-  decode-none-bits e l = decode-zero e ∙ closed-bits s 0 (ok []) (λ q. l (sym q))
+  decode-none-bits e l = decode-zero e ∙ ending-bits s 0 (ok []) (λ q. l (sym q))
 
   module _ (h0 : n ≡ 0 → ⊥) where
     some : decodeOf P s n ≡ someOf P s n
@@ -86,25 +86,25 @@ module _ (P : ℕ) (s : List ℕ) (n : ℕ) where
       unfolding someOf
       decode-wide l = some ∙ met _ _ (le-leb 1 (length s) (omega arith)) ∙ unmet _ _ (lt-leb _ _ l)
 
-      pub decode-closed : getD s 0 0 ≤ P → decodeOf P s n ≡ closed s (endOf P s n) (ok (saidBy P s n))
+      pub decode-ending : getD s 0 0 ≤ P → decodeOf P s n ≡ endRules s (endOf P s n) (ok (saidBy P s n))
       unfolding someOf
-      decode-closed l = some ∙ met _ _ (le-leb 1 (length s) (omega arith)) ∙ met _ _ (le-leb _ _ l)
+      decode-ending l = some ∙ met _ _ (le-leb 1 (length s) (omega arith)) ∙ met _ _ (le-leb _ _ l)
 
 -- ---- the same, where the code has found the place e at which the entries end
 
 module _ (P : ℕ) (s : List ℕ) (n : ℕ) (h0 : n ≡ 0 → ⊥) (hs : length s ≡ 0 → ⊥) (hw : getD s 0 0 ≤ P) (e : ℕ) (he : e ≡ endOf P s n) where
-  at-end : decodeOf P s n ≡ closed s e (ok (saidBy P s n))
-  at-end = rw he (decode-closed P s n h0 hs hw)
+  at-end : decodeOf P s n ≡ endRules s e (ok (saidBy P s n))
+  at-end = rw he (decode-ending P s n h0 hs hw)
 
   pub ended-bits : (whole e ≡ length s → ⊥) → decodeOf P s n ≡ refused (because Table.bits)
-  ended-bits l = at-end ∙ closed-bits s e (ok (saidBy P s n)) l
+  ended-bits l = at-end ∙ ending-bits s e (ok (saidBy P s n)) l
 
   module _ (b : Bytes s) (l : whole e ≡ length s) where
     pub ended-fill : (number s / 2 ^ e % 2 ^ 64 ≡ 0 → ⊥) → decodeOf P s n ≡ refused (because Table.fill)
-    ended-fill z = at-end ∙ closed-fill s e (ok (saidBy P s n)) l (fill-some s e b l z)
+    ended-fill z = at-end ∙ ending-fill s e (ok (saidBy P s n)) l (fill-some s e b l z)
 
     pub ended-good : number s / 2 ^ e % 2 ^ 64 ≡ 0 → decodeOf P s n ≡ ok (saidBy P s n)
-    ended-good z = at-end ∙ closed-good s e (ok (saidBy P s n)) l (fill-zero s e b l z)
+    ended-good z = at-end ∙ ending-good s e (ok (saidBy P s n)) l (fill-zero s e b l z)
 
 -- ---- reading, by its outcome
 
@@ -179,9 +179,9 @@ module _ (P : ℕ) (s : List ℕ) (n : ℕ) (d : List ℕ) where
 
 -- ---- where a value comes, what held
 
-pub closed-ok : {A : Type 0} (s : List ℕ) (e : ℕ) (x : Out A) (a : A) → closed s e x ≡ ok a → (whole e ≡ length s) × (number s < 2 ^ e) × (x ≡ ok a)
-unfolding closed
-closed-ok s e x a h =
+pub ending-ok : {A : Type 0} (s : List ℕ) (e : ℕ) (x : Out A) (a : A) → endRules s e x ≡ ok a → (whole e ≡ length s) × (number s < 2 ^ e) × (x ≡ ok a)
+unfolding endRules
+ending-ok s e x a h =
     let p = need-ok _ _ _ _ h in
     let q = need-ok _ _ _ _ (p .1) in
     (eqb-true _ _ (p .0), ltb-true _ _ (q .0), q .1)
@@ -199,12 +199,12 @@ unfolding decodeOf someOf
 some-ok P s n l h0 h =
     let p = need-ok (leb 1 (length s)) _ _ l (simp (ne-eqb _ _ h0) at h) in
     let q = need-ok _ _ _ _ (p .1) in
-    let r = closed-ok s (endOf P s n) (ok (saidBy P s n)) l (q .1) in
+    let r = ending-ok s (endOf P s n) (ok (saidBy P s n)) l (q .1) in
     record { some = leb-true _ _ (p .0); narrow = leb-true _ _ (q .0); whole-way = r .0; zero-fill = r .1; list = ok-inj (r .2) }
 
 pub none-ok : (P : ℕ) (s : List ℕ) (n : ℕ) (l : List ℕ) → n ≡ 0 → decodeOf P s n ≡ ok l → (length s ≡ 0) × (l ≡ [])
 none-ok P s n l e h =
-    let r = closed-ok s 0 (ok []) l (sym (decode-zero P s n e) ∙ h) in
+    let r = ending-ok s 0 (ok []) l (sym (decode-zero P s n e) ∙ h) in
     (sym (r .0), sym (ok-inj (r .2)))
 
 -- the scratch then holds the values

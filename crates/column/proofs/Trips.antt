@@ -8,23 +8,23 @@ use native.Mathlib.Omega.{arith}
 use lib.ListN.{length, getD}
 use lib.Pow.{pow-mono}
 use Rattle.answer.specs.Outcome.{ok}
-use Rattle.le.specs.Number.{number, bytesOf, field}
+use Rattle.le.specs.Number.{Fits, number, bytesOf, field}
 use Rattle.le.proofs.Bytes.{length-bytesOf, number-of-fit}
 use Rattle.entry.specs.Fields.{Fld, fld, pack, bits}
-use Rattle.entry.specs.Entry.{EntriesSay, Below, below-more}
+use Rattle.entry.specs.Entry.{EntriesSay}
 use Rattle.entry.proofs.Fields.{fit-more, pack-lt, first, past}
 use Rattle.entry.proofs.Entries.{entries-say, says-fit}
 use Rattle.entry.proofs.Reading.{Reads, reads-all}
 use Rattle.width.specs.Width.{widthOf}
 use Rattle.width.proofs.Sizes.{width-least, size-most, length-zs}
 use Rattle.column.specs.Column.{whole, asBytes, columnWith, IsColumn, column-none, column-some, columnAt, encodeAt, encode}
-use Rattle.column.specs.Read.{saidBy, endOf, closed, decodeOf}
-use Rattle.column.proofs.Decoding.{decode-none, decode-closed, closed-good}
+use Rattle.column.specs.Read.{saidBy, endOf, endRules, decodeOf}
+use Rattle.column.proofs.Decoding.{decode-none, decode-ending, ending-good}
 use Rattle.column.proofs.Writing.{column-bits, encode-length, encode-none}
 
 -- ---- one column with values
 
-module _ (P n v : ℕ) (vs : List ℕ) (fs : List Fld) (hn : n ≤ P) (hP : P < 256) (hv : v < 2 ^ P) (hb : Below P vs) (says : EntriesSay P n v vs fs) where
+module _ (P n v : ℕ) (vs : List ℕ) (fs : List Fld) (hn : n ≤ P) (hP : P < 256) (hv : v < 2 ^ P) (hb : Fits P vs) (says : EntriesSay P n v vs fs) where
   c : List Fld
   c = columnWith P n v fs
 
@@ -88,16 +88,16 @@ module _ (P n v : ℕ) (vs : List ℕ) (fs : List Fld) (hn : n ≤ P) (hP : P < 
   decoded : decodeOf P s (suc (length vs)) ≡ ok (v ∷ vs)
   decoded =
       let w : getD s 0 0 ≤ P = rw width-s hn in
-      decode-closed P s (suc (length vs)) (λ q. omega arith) (λ q. omega (arith, length-s, bits-c)) w
-      ∙ ap₂ (λ (e : ℕ) (l : List ℕ). closed s e (ok l)) ends said
-      ∙ closed-good s (bits (columnWith P n v fs)) (ok (v ∷ vs)) (sym length-s) (rw number-s c-lt)
+      decode-ending P s (suc (length vs)) (λ q. omega arith) (λ q. omega (arith, length-s, bits-c)) w
+      ∙ ap₂ (λ (e : ℕ) (l : List ℕ). endRules s e (ok l)) ends said
+      ∙ ending-good s (bits (columnWith P n v fs)) (ok (v ∷ vs)) (sym length-s) (rw number-s c-lt)
 
 -- ---- what is a column of a list is decoded as that list
 
-pub decodes-column : (P : ℕ) {s vs : List ℕ} → P < 256 → Below P vs → IsColumn P s vs → decodeOf P s (length vs) ≡ ok vs
+pub decodes-column : (P : ℕ) {s vs : List ℕ} → P < 256 → Fits P vs → IsColumn P s vs → decodeOf P s (length vs) ≡ ok vs
 unfolding s
 decodes-column P hP hb column-none = decode-none P [] 0 refl refl (λ i. omega arith)
-decodes-column P hP (below-more {v = v} hv hb) (column-some {n = n} {vs = vs} {fs = fs} hn says) = decoded P n v vs fs hn hP hv hb says
+decodes-column P hP hb (column-some {n = n} {v = v} {vs = vs} {fs = fs} hn says) = decoded P n v vs fs hn hP (hb 0) (λ i. hb (suc i)) says
 
 -- the bytes at width n are a column of the list
 pub written-column : (P n : ℕ) (vs : List ℕ) → n ≤ P → IsColumn P (encodeAt P n vs) vs
@@ -106,7 +106,7 @@ written-column P n [] hn = subst (λ (s : List ℕ). IsColumn P s []) (sym (enco
 written-column P n (v ∷ vs) hn = column-some hn (entries-say P n v vs)
 
 -- and so the writer's are decoded as the list
-pub decodes-written : (P : ℕ) (vs : List ℕ) → P < 256 → Below P vs → decodeOf P (encode P vs) (length vs) ≡ ok vs
+pub decodes-written : (P : ℕ) (vs : List ℕ) → P < 256 → Fits P vs → decodeOf P (encode P vs) (length vs) ≡ ok vs
 unfolding encode
 decodes-written P vs hP hb = decodes-column P hP hb (written-column P (widthOf P vs) vs (width-least P vs .within))
 

@@ -3,17 +3,19 @@ ghost use mathlib.Core.Path.{_≡_};
 ghost use mathlib.Core.List.{[], _∷_, _++_};
 ghost use Prim.Native.Nat.{_≤_, _<_};
 ghost use lib.ListN.{length, take, drop, getD};
+ghost use Rattle.answer.specs.Limits.{mostVertices};
 ghost use Rattle.answer.specs.Outcome.{Fills};
 ghost use Rattle.le.specs.Number.{number, field};
 ghost use Rattle.column.specs.Read.{saidBy, endOf, decodeOf, readOf, Decodes};
 use crate::refused;
 use crate::walk::fill;
 use answer::Filled;
+use answer::limits::MOST_VERTICES;
 use entry::Given;
 
 // The n values of a column into a scratch of the caller's own, in one walk. A refusal by 9 or 10 too leaves there what the entries said.
 pub fn decode(s: &[u8], n: usize, out: &mut [u64]) -> Filled
-    requires { ⌜ (n ≤ 2048) × (n ≤ length (now out)) ⌝ }
+    requires { ⌜ (n ≤ mostVertices) × (n ≤ length (now out)) ⌝ }
     ensures { λ r. ⌜ Decodes 64 (now (s .entry)) n (now (out .entry)) r (now (out .exit)) ⌝ }
 {
     let len = s.len();
@@ -34,7 +36,7 @@ pub fn decode(s: &[u8], n: usize, out: &mut [u64]) -> Filled
     if (e + 7) / 8 != len {
         return refused(answer::table::BITS);
     }
-    if le::bits::rest(s, e) != 0 {
+    if le::bits::window_in_last_byte(s, e) != 0 {
         return refused(answer::table::FILL);
     }
     Filled::Start(n)
@@ -45,16 +47,12 @@ fn copy(src: &[u64], n: usize, dst: &mut [u64])
     requires { ⌜ (n ≤ length (now src)) × (n ≤ length (now dst)) ⌝ }
     ensures { λ r. ⌜ now (dst .exit) ≡ take n (now (src .entry)) ++ drop n (now (dst .entry)) ⌝ }
 {
-    let mut i: usize = 0;
-    while i < n {
-        dst[i] = src[i];
-        i += 1;
-    }
+    le::run::copy_u64s(&src[..n], dst);
 }
 
 // Decodes through a scratch, so that a refusal leaves out as it was.
 fn through(s: &[u8], n: usize, scratch: &mut [u64], out: &mut [u64]) -> Filled
-    requires { ⌜ (n ≤ 2048) × (n ≤ length (now scratch)) × (n ≤ length (now out)) ⌝ }
+    requires { ⌜ (n ≤ mostVertices) × (n ≤ length (now scratch)) × (n ≤ length (now out)) ⌝ }
     ensures { λ r. ⌜ Fills (decodeOf 64 (now (s .entry)) n) (now (out .entry)) r (now (out .exit)) ⌝ }
 {
     match decode(s, n, scratch) {
@@ -96,7 +94,7 @@ fn read_pair(s: &[u8], n: usize, out: &mut [u64]) -> Filled
     if (end + 7) / 8 != len {
         return refused(answer::table::BITS);
     }
-    if le::bits::rest(s, end) != 0 {
+    if le::bits::window_in_last_byte(s, end) != 0 {
         return refused(answer::table::FILL);
     }
     out[0] = a;
@@ -136,16 +134,16 @@ fn through_512(s: &[u8], n: usize, out: &mut [u64]) -> Filled
 
 // Decodes through a scratch of 2,048 values.
 fn through_2048(s: &[u8], n: usize, out: &mut [u64]) -> Filled
-    requires { ⌜ (n ≤ 2048) × (n ≤ length (now out)) ⌝ }
+    requires { ⌜ (n ≤ mostVertices) × (n ≤ length (now out)) ⌝ }
     ensures { λ r. ⌜ Fills (decodeOf 64 (now (s .entry)) n) (now (out .entry)) r (now (out .exit)) ⌝ }
 {
-    let mut own = [0u64; 2048];
+    let mut own = [0u64; MOST_VERTICES];
     through(s, n, &mut own, out)
 }
 
 // Reads through a scratch that is as long as it need be, or through none: clearing 16 KiB for 200 values would cost more than reading them.
 fn through_own(s: &[u8], n: usize, out: &mut [u64]) -> Filled
-    requires { ⌜ (n ≤ 2048) × (n ≤ length (now out)) ⌝ }
+    requires { ⌜ (n ≤ mostVertices) × (n ≤ length (now out)) ⌝ }
     ensures { λ r. ⌜ Fills (decodeOf 64 (now (s .entry)) n) (now (out .entry)) r (now (out .exit)) ⌝ }
 {
     if n == 0 {
@@ -170,7 +168,7 @@ fn through_own(s: &[u8], n: usize, out: &mut [u64]) -> Filled
 pub fn read(s: &[u8], n: usize, out: &mut [u64]) -> Filled
     ensures { λ r. ⌜ Fills (readOf 64 (now (s .entry)) n (length (now (out .entry)))) (now (out .entry)) r (now (out .exit)) ⌝ }
 {
-    if 2048 < n {
+    if MOST_VERTICES < n {
         return refused(answer::table::MANY);
     }
     if out.len() < n {

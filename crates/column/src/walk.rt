@@ -3,10 +3,10 @@ ghost use mathlib.Core.Path.{_≡_};
 ghost use mathlib.Core.List.{_++_};
 ghost use Prim.Native.Nat.{_+_, _*_, _≤_, _<_};
 ghost use lib.ListN.{length, drop, getD};
+ghost use Rattle.answer.specs.Limits.{mostVertices};
 ghost use Rattle.le.specs.Number.{number};
-ghost use Rattle.entry.specs.Step.{marker};
 ghost use Rattle.column.specs.Read.{saidBy, endOf};
-ghost use Rattle.column.specs.Filling.{Went};
+ghost use Rattle.column.specs.Filling.{Fillable, Went};
 use crate::Position;
 
 // The place before which an entry is sure to lie inside so many bytes: 17 stand from its first one on. A column reaches no further than 65,536.
@@ -24,7 +24,7 @@ fn sure_before(len: usize) -> usize
 
 // Where so many steps of width w from a place on would end, or the limit if that comes first.
 fn steps_end(limit: usize, at: usize, w: u64, left: usize) -> usize
-    requires { ⌜ (w ≤ 64) × (left ≤ 2048) × (at ≤ 72 + 128 * 2048) ⌝ }
+    requires { ⌜ (w ≤ 64) × (left ≤ mostVertices) × (at ≤ 72 + 128 * mostVertices) ⌝ }
     ensures { λ r. ⌜ (r ≤ limit) × (r ≤ at + w * left) ⌝ }
 {
     let end = at + (w as usize) * left;
@@ -33,8 +33,9 @@ fn steps_end(limit: usize, at: usize, w: u64, left: usize) -> usize
 
 // Gives values into out as long as steps follow each other and the next one begins before the limit.
 fn fill_steps(s: &[u8], n: usize, limit: usize, m: u64, from: Position, out: &mut [u64]) -> Position
-    requires { ⌜ (from .width ≤ 64) × (m ≡ marker (from .width)) × (from .given ≤ n) × (n ≤ 2048) × (n ≤ length (now out))
-        × (from .at ≤ 72 + 128 * 2048) × (limit + 64 ≤ 8 * length (now s)) ⌝ }
+    requires { ⌜ Fillable n m from (now out) ⌝ }
+    requires { ⌜ from .at ≤ 72 + 128 * mostVertices ⌝ }
+    requires { ⌜ limit + 64 ≤ 8 * length (now s) ⌝ }
     ensures { λ r. ⌜ (Went 64 (number (now (s .entry))) n from (now (out .entry)) r (now (out .exit))) × (from .given ≤ r .given) ⌝ }
 {
     let w = from.width;
@@ -43,7 +44,7 @@ fn fill_steps(s: &[u8], n: usize, limit: usize, m: u64, from: Position, out: &mu
     let mut i = from.given;
     let end = steps_end(limit, at, w, n - i);
     while at < end {
-        let z = le::bits::lead(s, at, w, m);
+        let z = le::bits::field_within(s, at, w, m);
         if m <= z {
             return Position {
                 at,
@@ -67,7 +68,8 @@ fn fill_steps(s: &[u8], n: usize, limit: usize, m: u64, from: Position, out: &mu
 
 // Gives values into out as long as an entry is sure to lie inside s, one by one.
 fn fill_each(s: &[u8], n: usize, m: u64, from: Position, out: &mut [u64]) -> Position
-    requires { ⌜ (from .width ≤ 64) × (m ≡ marker (from .width)) × (from .given ≤ n) × (n ≤ 2048) × (n ≤ length (now out)) × (from .at ≤ 72) ⌝ }
+    requires { ⌜ Fillable n m from (now out) ⌝ }
+    requires { ⌜ from .at ≤ 72 ⌝ }
     ensures { λ r. ⌜ Went 64 (number (now (s .entry))) n from (now (out .entry)) r (now (out .exit)) ⌝ }
 {
     let before = sure_before(s.len());
@@ -92,7 +94,8 @@ fn fill_each(s: &[u8], n: usize, m: u64, from: Position, out: &mut [u64]) -> Pos
 
 // Gives values into out as long as an entry is sure to lie inside s: one of either kind, and then the steps that follow it.
 fn fill_runs(s: &[u8], n: usize, m: u64, from: Position, out: &mut [u64]) -> Position
-    requires { ⌜ (from .width ≤ 64) × (m ≡ marker (from .width)) × (from .given ≤ n) × (n ≤ 2048) × (n ≤ length (now out)) × (from .at ≤ 72) ⌝ }
+    requires { ⌜ Fillable n m from (now out) ⌝ }
+    requires { ⌜ from .at ≤ 72 ⌝ }
     ensures { λ r. ⌜ Went 64 (number (now (s .entry))) n from (now (out .entry)) r (now (out .exit)) ⌝ }
 {
     let before = sure_before(s.len());
@@ -124,7 +127,8 @@ fn fill_runs(s: &[u8], n: usize, m: u64, from: Position, out: &mut [u64]) -> Pos
 
 // Gives values into out as long as an entry is sure to lie inside s. At width 0 no step can stand, and there is nothing to look ahead for.
 fn fill_inside(s: &[u8], n: usize, m: u64, from: Position, out: &mut [u64]) -> Position
-    requires { ⌜ (from .width ≤ 64) × (m ≡ marker (from .width)) × (from .given ≤ n) × (n ≤ 2048) × (n ≤ length (now out)) × (from .at ≤ 72) ⌝ }
+    requires { ⌜ Fillable n m from (now out) ⌝ }
+    requires { ⌜ from .at ≤ 72 ⌝ }
     ensures { λ r. ⌜ Went 64 (number (now (s .entry))) n from (now (out .entry)) r (now (out .exit)) ⌝ }
 {
     if from.width == 0 {
@@ -135,7 +139,8 @@ fn fill_inside(s: &[u8], n: usize, m: u64, from: Position, out: &mut [u64]) -> P
 
 // Gives values into out as long as steps follow each other that begin in the last eight bytes.
 fn fill_last(s: &[u8], n: usize, m: u64, from: Position, out: &mut [u64]) -> Position
-    requires { ⌜ (from .width ≤ 64) × (m ≡ marker (from .width)) × (from .given ≤ n) × (n ≤ 2048) × (n ≤ length (now out)) × (from .at ≤ 72 + 128 * 2048) ⌝ }
+    requires { ⌜ Fillable n m from (now out) ⌝ }
+    requires { ⌜ from .at ≤ 72 + 128 * mostVertices ⌝ }
     ensures { λ r. ⌜ Went 64 (number (now (s .entry))) n from (now (out .entry)) r (now (out .exit)) ⌝ }
 {
     let len = s.len();
@@ -150,7 +155,7 @@ fn fill_last(s: &[u8], n: usize, m: u64, from: Position, out: &mut [u64]) -> Pos
         return from;
     }
     while i < n && at / 8 < len {
-        let e = le::bits::closing(s, at, m);
+        let e = le::bits::field_in_last_eight(s, at, m);
         if m <= e {
             return Position {
                 at,
@@ -174,7 +179,8 @@ fn fill_last(s: &[u8], n: usize, m: u64, from: Position, out: &mut [u64]) -> Pos
 
 // Gives the rest of n values into out; past the end of s bits are 0.
 fn fill_rest(s: &[u8], n: usize, m: u64, from: Position, out: &mut [u64]) -> Position
-    requires { ⌜ (from .width ≤ 64) × (m ≡ marker (from .width)) × (from .given ≤ n) × (n ≤ 2048) × (n ≤ length (now out)) × (from .at ≤ 72 + 128 * 2048) ⌝ }
+    requires { ⌜ Fillable n m from (now out) ⌝ }
+    requires { ⌜ from .at ≤ 72 + 128 * mostVertices ⌝ }
     ensures { λ r. ⌜ (Went 64 (number (now (s .entry))) n from (now (out .entry)) r (now (out .exit))) × (r .given ≡ n) ⌝ }
 {
     let w = from.width;
@@ -198,8 +204,10 @@ fn fill_rest(s: &[u8], n: usize, m: u64, from: Position, out: &mut [u64]) -> Pos
 
 // Gives all n values of a column of width w into out, and the place where its entries end.
 pub(crate) fn fill(s: &[u8], n: usize, w: u64, out: &mut [u64]) -> usize
-    requires { ⌜ (w ≡ getD (now s) 0 0) × (w ≤ 64) × (0 < n) × (n ≤ 2048) × (n ≤ length (now out)) ⌝ }
-    ensures { λ r. ⌜ (r ≡ endOf 64 (now (s .entry)) n) × (now (out .exit) ≡ saidBy 64 (now (s .entry)) n ++ drop n (now (out .entry))) × (r ≤ 72 + 128 * 2048) ⌝ }
+    requires { ⌜ (w ≡ getD (now s) 0 0) × (w ≤ 64) × (0 < n) × (n ≤ mostVertices) × (n ≤ length (now out)) ⌝ }
+    ensures end { λ r. ⌜ r ≡ endOf 64 (now (s .entry)) n ⌝ }
+    ensures room { λ r. ⌜ now (out .exit) ≡ saidBy 64 (now (s .entry)) n ++ drop n (now (out .entry)) ⌝ }
+    ensures bound { λ r. ⌜ r ≤ 72 + 128 * mostVertices ⌝ }
 {
     let m = entry::marker(w);
     let first = le::bits::window(s, 8);

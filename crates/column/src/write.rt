@@ -3,6 +3,7 @@
 ghost use mathlib.Core.Path.{_≡_};
 ghost use Prim.Native.Nat.{_+_, _*_, _≤_, _<_};
 ghost use lib.ListN.{length, getD, drop};
+ghost use Rattle.answer.specs.Limits.{mostVertices};
 ghost use Rattle.answer.specs.Outcome.{Fills};
 ghost use Rattle.entry.specs.Step.{marker};
 ghost use Rattle.entry.specs.Fields.{bits, putFields};
@@ -12,6 +13,7 @@ ghost use Rattle.column.specs.Column.{encodeAt, encode};
 ghost use Rattle.column.specs.Write.{writeOf};
 use crate::refused;
 use answer::Filled;
+use answer::limits::MOST_VERTICES;
 
 // The width that a column takes, and its size in bytes.
 pub struct Fitted {
@@ -21,7 +23,7 @@ pub struct Fitted {
 
 // The width and the size of the column of vs.
 pub fn fit(vs: &[u64]) -> Fitted
-    requires { ⌜ length (now vs) ≤ 2048 ⌝ }
+    requires { ⌜ length (now vs) ≤ mostVertices ⌝ }
     ensures { λ r. ⌜ (r .width ≡ widthOf 64 (now (vs .entry))) × (r .bytes ≡ length (encode 64 (now (vs .entry)))) ⌝ }
 {
     let c = width::choose(vs);
@@ -39,10 +41,10 @@ pub fn fit(vs: &[u64]) -> Fitted
 
 // Puts the entries of all values after the first, from place 72 on, and gives the place after them; m is the marker of width n.
 fn put_entries(part: &mut [u8], vs: &[u64], n: u64, m: u64) -> usize
-    requires { ⌜ (n ≤ 64) × (m ≡ marker n) × (0 < length (now vs)) × (length (now vs) ≤ 2048)
-        × (72 + bits (entries 64 n (getD (now vs) 0 0) (drop 1 (now vs))) ≤ 8 * length (now part)) ⌝ }
-    ensures { λ r. ⌜ (now (part .exit) ≡ putFields (now (part .entry)) 72 (entries 64 n (getD (now (vs .entry)) 0 0) (drop 1 (now (vs .entry)))))
-        × (r ≡ 72 + bits (entries 64 n (getD (now (vs .entry)) 0 0) (drop 1 (now (vs .entry))))) ⌝ }
+    requires { ⌜ (n ≤ 64) × (m ≡ marker n) × (0 < length (now vs)) × (length (now vs) ≤ mostVertices) ⌝ }
+    requires { ⌜ 72 + bits (entries 64 n (getD (now vs) 0 0) (drop 1 (now vs))) ≤ 8 * length (now part) ⌝ }
+    ensures entries { λ r. ⌜ now (part .exit) ≡ putFields (now (part .entry)) 72 (entries 64 n (getD (now (vs .entry)) 0 0) (drop 1 (now (vs .entry)))) ⌝ }
+    ensures place { λ r. ⌜ r ≡ 72 + bits (entries 64 n (getD (now (vs .entry)) 0 0) (drop 1 (now (vs .entry)))) ⌝ }
 {
     let mut at: usize = 72;
     let mut a = vs[0];
@@ -58,7 +60,7 @@ fn put_entries(part: &mut [u8], vs: &[u64], n: u64, m: u64) -> usize
 
 // Puts the column of vs at width n into a part of exactly its size.
 pub fn put(part: &mut [u8], vs: &[u64], n: u64)
-    requires { ⌜ (n ≤ 64) × (length (now vs) ≤ 2048) × (length (now part) ≡ length (encodeAt 64 n (now vs))) ⌝ }
+    requires { ⌜ (n ≤ 64) × (length (now vs) ≤ mostVertices) × (length (now part) ≡ length (encodeAt 64 n (now vs))) ⌝ }
     ensures { λ r. ⌜ now (part .exit) ≡ encodeAt 64 n (now (vs .entry)) ⌝ }
 {
     let count = vs.len();
@@ -75,7 +77,7 @@ pub fn put(part: &mut [u8], vs: &[u64], n: u64)
 pub fn write(vs: &[u64], out: &mut [u8]) -> Filled
     ensures { λ r. ⌜ Fills (writeOf 64 (now (vs .entry)) (length (now (out .entry)))) (now (out .entry)) r (now (out .exit)) ⌝ }
 {
-    if 2048 < vs.len() {
+    if MOST_VERTICES < vs.len() {
         return refused(answer::table::MANY);
     }
     let f = fit(vs);

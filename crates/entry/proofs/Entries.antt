@@ -11,20 +11,11 @@ use lib.ListN.{getD, drop}
 use lib.Pow.{ones-lt}
 use borrow.Author.Tests.{lt-ltb, le-ltb, ltb-true, ltb-false}
 use Rattle.entry.specs.Step.{zOf, marker}
+use Rattle.le.specs.Number.{Fits}
 use Rattle.le.specs.Put.{putField}
 use Rattle.entry.specs.Fields.{Fld, fld, bits, putFields}
-use Rattle.entry.specs.Entry.{Below, below-none, below-more, EntriesSay, says-none, says-step, says-full, entries, entryOf}
+use Rattle.entry.specs.Entry.{EntriesSay, says-none, says-step, says-full, entries, entryOf}
 use Rattle.entry.proofs.Fields.{Fit, fit-none, fit-more, Narrow, narrow-none, narrow-more}
-
--- numbers below 2 ^ P are such patterns
-pub all-below : (P : ℕ) (vs : List ℕ) → ((i : ℕ) → getD vs i 0 < 2 ^ P) → Below P vs
-all-below P [] h = below-none
-all-below P (v ∷ vs) h = below-more (h 0) (all-below P vs (λ i. h (suc i)))
-
-pub below-drop : (P k : ℕ) (vs : List ℕ) → Below P vs → Below P (drop k vs)
-below-drop P zero vs h = h
-below-drop P (suc k) [] h = h
-below-drop P (suc k) (v ∷ vs) (below-more l h) = below-drop P k vs h
 
 module _ (P n a v : ℕ) (vs : List ℕ) where
   pub entries-short : zOf P a v < marker n → entries P n a (v ∷ vs) ≡ fld (zOf P a v) n ∷ entries P n v vs
@@ -57,10 +48,10 @@ pub short-lt : (n z : ℕ) → z < marker n → z < 2 ^ n
 short-lt n z h = omega (arith, ones-lt n)
 
 -- fields that say patterns fit their bits
-pub says-fit : {P n a : ℕ} {vs : List ℕ} {fs : List Fld} → Below P vs → EntriesSay P n a vs fs → Fit fs
-says-fit below-none says-none = fit-none
-says-fit {n = n} (below-more h b) (says-step l r) = fit-more (short-lt n _ l) (says-fit b r)
-says-fit {n = n} (below-more h b) (says-full r) = fit-more (ones-lt n) (fit-more h (says-fit b r))
+pub says-fit : {P n a : ℕ} {vs : List ℕ} {fs : List Fld} → Fits P vs → EntriesSay P n a vs fs → Fit fs
+says-fit h says-none = fit-none
+says-fit {n = n} h (says-step l r) = fit-more (short-lt n _ l) (says-fit (λ i. h (suc i)) r)
+says-fit {n = n} h (says-full r) = fit-more (ones-lt n) (fit-more (h 0) (says-fit (λ i. h (suc i)) r))
 
 -- and none is over 64 bits where width and pattern are not
 pub says-narrow : {P n a : ℕ} {vs : List ℕ} {fs : List Fld} → n ≤ 64 → P ≤ 64 → EntriesSay P n a vs fs → Narrow fs

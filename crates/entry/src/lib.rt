@@ -75,7 +75,7 @@ pub fn entry_inside(s: &[u8], at: usize, n: u64, m: u64, a: u64) -> Given
     requires { ⌜ (n ≤ 64) × (m ≡ marker n) × (at < 2 ^ 62) × (at / 8 + 17 ≤ length (now s)) ⌝ }
     ensures { λ r. ⌜ (r .value ≡ valueAt 64 (number (now (s .entry))) n at a) × (r .next ≡ at + sizeAt 64 (number (now (s .entry))) n at) ⌝ }
 {
-    let e = le::bits::lead(s, at, n, m);
+    let e = le::bits::field_within(s, at, n, m);
     let p = at + (n as usize);
     if e < m {
         Given {
@@ -84,7 +84,7 @@ pub fn entry_inside(s: &[u8], at: usize, n: u64, m: u64, a: u64) -> Given
         }
     } else {
         Given {
-            value: le::bits::nine(s, p),
+            value: le::bits::window_within(s, p),
             next: p + 64,
         }
     }

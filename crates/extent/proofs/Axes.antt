@@ -8,7 +8,8 @@ use native.Mathlib.Omega.{arith}
 use lib.Dec.{leb, ltb, lt→ltb, ltb→lt}
 use Rattle.answer.proofs.Both.{not-true, both, both-l, both-r}
 use Rattle.extent.specs.Rank.{finite, keyOf, key, atMost, sameValue}
-use Rattle.extent.specs.Boxes.{Bounds, fourFinite, inOrder, goodForm}
+use Rattle.extent.specs.declared.bounds.Bounds.{Bounds}
+use Rattle.extent.specs.Boxes.{fourFinite, inOrder, goodForm}
 use Rattle.extent.specs.Forms.{goodAxis}
 use Rattle.extent.proofs.Tests.{same-test, T-true, true-T, all-four, four-all}
 use Rattle.extent.proofs.Patterns.{finite-size, not-finite-size}
@@ -78,28 +79,28 @@ module _ (a b : ℕ) where
 
 -- ---- good form is a good axis twice
 
-axes-good : (p : Bounds) → goodAxis (p .least-x) (p .greatest-x) ≡ true → goodAxis (p .least-y) (p .greatest-y) ≡ true → goodForm p ≡ true
+axes-good : (p : Bounds) → goodAxis (p .«least_x») (p .«greatest_x») ≡ true → goodAxis (p .«least_y») (p .«greatest_y») ≡ true → goodForm p ≡ true
 unfolding goodForm fourFinite inOrder
 axes-good p e g =
     both (four-all _ _ _ _ (axis-least _ _ e) (axis-least _ _ g) (axis-greatest _ _ e) (axis-greatest _ _ g)) (both (axis-order _ _ e) (axis-order _ _ g))
 
 module _ (p : Bounds) (e : goodForm p ≡ true) where
-  four : (finite (p .least-x) ≡ true) × (finite (p .least-y) ≡ true) × (finite (p .greatest-x) ≡ true) × (finite (p .greatest-y) ≡ true)
+  four : (finite (p .«least_x») ≡ true) × (finite (p .«least_y») ≡ true) × (finite (p .«greatest_x») ≡ true) × (finite (p .«greatest_y») ≡ true)
   unfolding goodForm fourFinite
   four = all-four _ _ _ _ (both-l (fourFinite p) (inOrder p) e)
 
-  good-x : goodAxis (p .least-x) (p .greatest-x) ≡ true
+  good-x : goodAxis (p .«least_x») (p .«greatest_x») ≡ true
   unfolding goodAxis goodForm inOrder
-  good-x = both (both (four .0) (four .2)) (both-l (atMost (p .least-x) (p .greatest-x)) (atMost (p .least-y) (p .greatest-y)) (both-r (fourFinite p) (inOrder p) e))
+  good-x = both (both (four .0) (four .2)) (both-l (atMost (p .«least_x») (p .«greatest_x»)) (atMost (p .«least_y») (p .«greatest_y»)) (both-r (fourFinite p) (inOrder p) e))
 
-  good-y : goodAxis (p .least-y) (p .greatest-y) ≡ true
+  good-y : goodAxis (p .«least_y») (p .«greatest_y») ≡ true
   unfolding goodAxis goodForm inOrder
-  good-y = both (both (four .1) (four .3)) (both-r (atMost (p .least-x) (p .greatest-x)) (atMost (p .least-y) (p .greatest-y)) (both-r (fourFinite p) (inOrder p) e))
+  good-y = both (both (four .1) (four .3)) (both-r (atMost (p .«least_x») (p .«greatest_x»)) (atMost (p .«least_y») (p .«greatest_y»)) (both-r (fourFinite p) (inOrder p) e))
 
-pub good-axes : (p : Bounds) → goodForm p ≡ (goodAxis (p .least-x) (p .greatest-x) && goodAxis (p .least-y) (p .greatest-y))
+pub good-axes : (p : Bounds) → goodForm p ≡ (goodAxis (p .«least_x») (p .«greatest_x») && goodAxis (p .«least_y») (p .«greatest_y»))
 good-axes p =
-    let x = goodAxis (p .least-x) (p .greatest-x) in
-    let y = goodAxis (p .least-y) (p .greatest-y) in
+    let x = goodAxis (p .«least_x») (p .«greatest_x») in
+    let y = goodAxis (p .«least_y») (p .«greatest_y») in
     same-test (goodForm p) (x && y) (λ t. let e = true-T (goodForm p) t in T-true (both (good-x p e) (good-y p e)))
     (λ t. let e = true-T (x && y) t in T-true (axes-good p (both-l x y e) (both-r x y e)))
 

@@ -3,7 +3,8 @@ use mathlib.Core.Path.{_≡_, refl}
 use mathlib.Core.Bool.{Bool, true, false, cond}
 use Prim.Native.Nat.{ℕ}
 use Rattle.extent.specs.Rank.{finite, below}
-use Rattle.extent.specs.Boxes.{Bounds, FiniteBox, fourFinite, greater, spotOf}
+use Rattle.extent.specs.declared.bounds.Bounds.{Bounds}
+use Rattle.extent.specs.Boxes.{FiniteBox, fourFinite, greater, spotOf}
 use Rattle.extent.proofs.Tests.{all-four, four-all}
 
 -- ---- choices
@@ -22,12 +23,12 @@ greater-has P a x p q = chosen P (below a x) x a q p
 pub finite-box : (p : Bounds) → fourFinite p ≡ true → FiniteBox p
 unfolding fourFinite
 finite-box p e =
-    let w = all-four (finite (p .least-x)) (finite (p .least-y)) (finite (p .greatest-x)) (finite (p .greatest-y)) e in
-    record { least-x = w .0; least-y = w .1; greatest-x = w .2; greatest-y = w .3 }
+    let w = all-four (finite (p .«least_x»)) (finite (p .«least_y»)) (finite (p .«greatest_x»)) (finite (p .«greatest_y»)) e in
+    record { «least_x» = w .0; «least_y» = w .1; «greatest_x» = w .2; «greatest_y» = w .3 }
 
 pub four-finite : (p : Bounds) → FiniteBox p → fourFinite p ≡ true
 unfolding fourFinite
-four-finite p f = four-all _ _ _ _ (f .least-x) (f .least-y) (f .greatest-x) (f .greatest-y)
+four-finite p f = four-all _ _ _ _ (f .«least_x») (f .«least_y») (f .«greatest_x») (f .«greatest_y»)
 
 abbrev pub IsFinite : ℕ → Type 0
 IsFinite b = finite b ≡ true
@@ -35,4 +36,4 @@ IsFinite b = finite b ≡ true
 -- four zeros
 pub zeros-finite : FiniteBox (spotOf 0 0)
 unfolding finite
-zeros-finite = record { least-x = refl; least-y = refl; greatest-x = refl; greatest-y = refl }
+zeros-finite = record { «least_x» = refl; «least_y» = refl; «greatest_x» = refl; «greatest_y» = refl }

@@ -10,7 +10,8 @@ use lib.Ieee.{binary64, ofFields, ofBits}
 use lib.Signed.{leZ}
 use Rattle.answer.proofs.Both.{both}
 use Rattle.extent.specs.Rank.{signed, rank, finite, atMost}
-use Rattle.extent.specs.Boxes.{Bounds, FiniteBox, patternOf, patterns, inOrder, goodForm}
+use Rattle.extent.specs.declared.bounds.Bounds.{Bounds}
+use Rattle.extent.specs.Boxes.{FiniteBox, patternOf, patterns, inOrder, goodForm}
 use Rattle.extent.specs.Forms.{floatsOf}
 use Rattle.extent.proofs.Patterns.{bits-back}
 use Rattle.extent.proofs.Finite.{four-finite}
@@ -89,14 +90,14 @@ floats-good p g = order-good (patterns (floatsOf p)) (four-finite (patterns (flo
 
     fine : FiniteBox (patterns (floatsOf p))
     fine = record {
-      least-x = float-finite (p .least-x) (f .least-x);
-      least-y = float-finite (p .least-y) (f .least-y);
-      greatest-x = float-finite (p .greatest-x) (f .greatest-x);
-      greatest-y = float-finite (p .greatest-y) (f .greatest-y);
+      «least_x» = float-finite (p .«least_x») (f .«least_x»);
+      «least_y» = float-finite (p .«least_y») (f .«least_y»);
+      «greatest_x» = float-finite (p .«greatest_x») (f .«greatest_x»);
+      «greatest_y» = float-finite (p .«greatest_y») (f .«greatest_y»);
     }
 
     order : inOrder (patterns (floatsOf p)) ≡ true
     order =
         unfold inOrder in
-        both (float-at-most (p .least-x) (p .greatest-x) (f .least-x) (f .greatest-x) ∙ order-x p g)
-        (float-at-most (p .least-y) (p .greatest-y) (f .least-y) (f .greatest-y) ∙ order-y p g)
+        both (float-at-most (p .«least_x») (p .«greatest_x») (f .«least_x») (f .«greatest_x») ∙ order-x p g)
+        (float-at-most (p .«least_y») (p .«greatest_y») (f .«least_y») (f .«greatest_y») ∙ order-y p g)

@@ -7,7 +7,8 @@ use lib.Ieee.{binary64}
 use lib.Ieee.Bits.{ofBits-toBits}
 use Rattle.answer.proofs.Both.{both, both-l, both-r}
 use Rattle.extent.specs.Rank.{finite}
-use Rattle.extent.specs.Boxes.{Bounds, Words, FiniteBox, patterns, fourFinite, inOrder, goodForm, spotOf}
+use Rattle.extent.specs.declared.bounds.Bounds.{Bounds}
+use Rattle.extent.specs.Boxes.{Words, FiniteBox, patterns, fourFinite, inOrder, goodForm, spotOf}
 use Rattle.extent.specs.Forms.{floatsOf, FitsBox, formOf}
 use Rattle.extent.specs.declared.boxes.Box.{Box}
 use Rattle.extent.specs.declared.boxes.Form.the-variants.{Good, Bad}
@@ -32,7 +33,7 @@ order-good p f o = both f o
 -- a spot
 pub spot-good : (x y : ℕ) → finite x ≡ true → finite y ≡ true → goodForm (spotOf x y) ≡ true
 spot-good x y f g =
-    order-good (spotOf x y) (four-finite (spotOf x y) (record { least-x = f; least-y = g; greatest-x = f; greatest-y = g }))
+    order-good (spotOf x y) (four-finite (spotOf x y) (record { «least_x» = f; «least_y» = g; «greatest_x» = f; «greatest_y» = g }))
     (unfold inOrder in both (at-most-refl x) (at-most-refl y))
 
 -- ---- the two ends of the code
@@ -69,19 +70,19 @@ form-bad p = tested-bad (goodForm p) p
 -- the patterns of the floats of four finite patterns are those
 pub floats-patterns : (p : Bounds) → Words p → FiniteBox p → patterns (floatsOf p) ≡ p
 floats-patterns p w f i = record {
-  least-x = bits-back (p .least-x) (w .least-x) (f .least-x) i;
-  least-y = bits-back (p .least-y) (w .least-y) (f .least-y) i;
-  greatest-x = bits-back (p .greatest-x) (w .greatest-x) (f .greatest-x) i;
-  greatest-y = bits-back (p .greatest-y) (w .greatest-y) (f .greatest-y) i;
+  «least_x» = bits-back (p .«least_x») (w .«least_x») (f .«least_x») i;
+  «least_y» = bits-back (p .«least_y») (w .«least_y») (f .«least_y») i;
+  «greatest_x» = bits-back (p .«greatest_x») (w .«greatest_x») (f .«greatest_x») i;
+  «greatest_y» = bits-back (p .«greatest_y») (w .«greatest_y») (f .«greatest_y») i;
 }
 
 -- the floats of a box's patterns: two boxes with the same patterns are one
 pub floats-back : (b : Box) → FitsBox b → floatsOf (patterns b) ≡ b
 floats-back b f i = record {
-  «least_x» = ofBits-toBits binary64 (b .«least_x») (f .least-x) i;
-  «least_y» = ofBits-toBits binary64 (b .«least_y») (f .least-y) i;
-  «greatest_x» = ofBits-toBits binary64 (b .«greatest_x») (f .greatest-x) i;
-  «greatest_y» = ofBits-toBits binary64 (b .«greatest_y») (f .greatest-y) i;
+  «least_x» = ofBits-toBits binary64 (b .«least_x») (f .«least_x») i;
+  «least_y» = ofBits-toBits binary64 (b .«least_y») (f .«least_y») i;
+  «greatest_x» = ofBits-toBits binary64 (b .«greatest_x») (f .«greatest_x») i;
+  «greatest_y» = ofBits-toBits binary64 (b .«greatest_y») (f .«greatest_y») i;
 }
 
 pub box-determined : (a b : Box) → FitsBox a → FitsBox b → patterns a ≡ patterns b → a ≡ b

@@ -6,7 +6,8 @@ use Prim.Native.Nat.{ℕ, _+_, _^_, _≤_, _<_}
 use lib.ListN.{length, take, drop}
 use Rattle.answer.proofs.Both.{not-true, no-both, both-l, both-r}
 use Rattle.extent.specs.Rank.{finite, atMost, below}
-use Rattle.extent.specs.Boxes.{Bounds, inOrder, goodForm, meets, HoldsPoint, Shares, greater, boxOf, Words}
+use Rattle.extent.specs.declared.bounds.Bounds.{Bounds}
+use Rattle.extent.specs.Boxes.{inOrder, goodForm, meets, HoldsPoint, Shares, greater, boxOf, Words}
 use Rattle.extent.proofs.Tests.{same-test, T-true, true-T, all-four, four-all}
 use Rattle.extent.proofs.Ranks.{at-most-refl, at-most-trans, below-at-most, not-below}
 use Rattle.extent.proofs.Finite.{IsFinite, greater-has}
@@ -15,15 +16,15 @@ use Rattle.extent.proofs.Boxed.{Covers, covers-part}
 
 -- the four tests, one by one
 pub record Meet (p q : Bounds) : Type 0 where
-  pub x : atMost (p .least-x) (q .greatest-x) ≡ true
-  pub x′ : atMost (q .least-x) (p .greatest-x) ≡ true
-  pub y : atMost (p .least-y) (q .greatest-y) ≡ true
-  pub y′ : atMost (q .least-y) (p .greatest-y) ≡ true
+  pub x : atMost (p .«least_x») (q .«greatest_x») ≡ true
+  pub x′ : atMost (q .«least_x») (p .«greatest_x») ≡ true
+  pub y : atMost (p .«least_y») (q .«greatest_y») ≡ true
+  pub y′ : atMost (q .«least_y») (p .«greatest_y») ≡ true
 
 pub meets-four : (p q : Bounds) → meets p q ≡ true → Meet p q
 unfolding meets
 meets-four p q e =
-    let w = all-four (atMost (p .least-x) (q .greatest-x)) (atMost (q .least-x) (p .greatest-x)) (atMost (p .least-y) (q .greatest-y)) (atMost (q .least-y) (p .greatest-y)) e in
+    let w = all-four (atMost (p .«least_x») (q .«greatest_x»)) (atMost (q .«least_x») (p .«greatest_x»)) (atMost (p .«least_y») (q .«greatest_y»)) (atMost (q .«least_y») (p .«greatest_y»)) e in
     record { x = w .0; x′ = w .1; y = w .2; y′ = w .3 }
 
 pub four-meets : (p q : Bounds) → Meet p q → meets p q ≡ true
@@ -35,10 +36,10 @@ four-meets p q m = four-all _ _ _ _ (m .x) (m .x′) (m .y) (m .y′)
 -- a point in both lies between each least and each greatest
 pub shares-meets : (p q : Bounds) → Shares p q → meets p q ≡ true
 shares-meets p q s = four-meets p q (record {
-  x = at-most-trans (p .least-x) (s .x) (q .greatest-x) (s .first .from-x) (s .second .to-x);
-  x′ = at-most-trans (q .least-x) (s .x) (p .greatest-x) (s .second .from-x) (s .first .to-x);
-  y = at-most-trans (p .least-y) (s .y) (q .greatest-y) (s .first .from-y) (s .second .to-y);
-  y′ = at-most-trans (q .least-y) (s .y) (p .greatest-y) (s .second .from-y) (s .first .to-y);
+  x = at-most-trans (p .«least_x») (s .x) (q .«greatest_x») (s .first .from-x) (s .second .to-x);
+  x′ = at-most-trans (q .«least_x») (s .x) (p .«greatest_x») (s .second .from-x) (s .first .to-x);
+  y = at-most-trans (p .«least_y») (s .y) (q .«greatest_y») (s .first .from-y) (s .second .to-y);
+  y′ = at-most-trans (q .«least_y») (s .y) (p .«greatest_y») (s .second .from-y) (s .first .to-y);
 })
 
 -- the greater of two is at least both
@@ -57,11 +58,11 @@ greater-second a b = unfold greater in go (below a b) refl
     go false e = not-below a b e
 
 -- least ≤ greatest, one by one
-pub order-x : (p : Bounds) → goodForm p ≡ true → atMost (p .least-x) (p .greatest-x) ≡ true
-order-x p g = unfold inOrder in both-l (atMost (p .least-x) (p .greatest-x)) (atMost (p .least-y) (p .greatest-y)) (good-order p g)
+pub order-x : (p : Bounds) → goodForm p ≡ true → atMost (p .«least_x») (p .«greatest_x») ≡ true
+order-x p g = unfold inOrder in both-l (atMost (p .«least_x») (p .«greatest_x»)) (atMost (p .«least_y») (p .«greatest_y»)) (good-order p g)
 
-pub order-y : (p : Bounds) → goodForm p ≡ true → atMost (p .least-y) (p .greatest-y) ≡ true
-order-y p g = unfold inOrder in both-r (atMost (p .least-x) (p .greatest-x)) (atMost (p .least-y) (p .greatest-y)) (good-order p g)
+pub order-y : (p : Bounds) → goodForm p ≡ true → atMost (p .«least_y») (p .«greatest_y») ≡ true
+order-y p g = unfold inOrder in both-r (atMost (p .«least_x») (p .«greatest_x»)) (atMost (p .«least_y») (p .«greatest_y»)) (good-order p g)
 
 -- the greater of the two least is at most a number that both are at most
 under : (a b c : ℕ) → atMost a c ≡ true → atMost b c ≡ true → atMost (greater a b) c ≡ true
@@ -72,32 +73,32 @@ IsWord b = b < 2 ^ 64
 
 -- the corner: the greater of the two least x, and of the two least y; it is in both boxes
 abbrev corner-x : Bounds → Bounds → ℕ
-corner-x p q = greater (p .least-x) (q .least-x)
+corner-x p q = greater (p .«least_x») (q .«least_x»)
 
 abbrev corner-y : Bounds → Bounds → ℕ
-corner-y p q = greater (p .least-y) (q .least-y)
+corner-y p q = greater (p .«least_y») (q .«least_y»)
 
 corner-in-first : (p q : Bounds) → goodForm p ≡ true → Meet p q → HoldsPoint p (corner-x p q) (corner-y p q)
 corner-in-first p q g m = record {
-  from-x = greater-first (p .least-x) (q .least-x);
-  to-x = under (p .least-x) (q .least-x) (p .greatest-x) (order-x p g) (m .x′);
-  from-y = greater-first (p .least-y) (q .least-y);
-  to-y = under (p .least-y) (q .least-y) (p .greatest-y) (order-y p g) (m .y′);
+  from-x = greater-first (p .«least_x») (q .«least_x»);
+  to-x = under (p .«least_x») (q .«least_x») (p .«greatest_x») (order-x p g) (m .x′);
+  from-y = greater-first (p .«least_y») (q .«least_y»);
+  to-y = under (p .«least_y») (q .«least_y») (p .«greatest_y») (order-y p g) (m .y′);
 }
 
 corner-in-second : (p q : Bounds) → goodForm q ≡ true → Meet p q → HoldsPoint q (corner-x p q) (corner-y p q)
 corner-in-second p q h m = record {
-  from-x = greater-second (p .least-x) (q .least-x);
-  to-x = under (p .least-x) (q .least-x) (q .greatest-x) (m .x) (order-x q h);
-  from-y = greater-second (p .least-y) (q .least-y);
-  to-y = under (p .least-y) (q .least-y) (q .greatest-y) (m .y) (order-y q h);
+  from-x = greater-second (p .«least_x») (q .«least_x»);
+  to-x = under (p .«least_x») (q .«least_x») (q .«greatest_x») (m .x) (order-x q h);
+  from-y = greater-second (p .«least_y») (q .«least_y»);
+  to-y = under (p .«least_y») (q .«least_y») (q .«greatest_y») (m .y) (order-y q h);
 }
 
 corner-finite : (p q : Bounds) → goodForm p ≡ true → goodForm q ≡ true → (finite (corner-x p q) ≡ true) × (finite (corner-y p q) ≡ true)
 corner-finite p q g h =
     let f = good-finite p g in
     let k = good-finite q h in
-    (greater-has IsFinite (p .least-x) (q .least-x) (f .least-x) (k .least-x), greater-has IsFinite (p .least-y) (q .least-y) (f .least-y) (k .least-y))
+    (greater-has IsFinite (p .«least_x») (q .«least_x») (f .«least_x») (k .«least_x»), greater-has IsFinite (p .«least_y») (q .«least_y») (f .«least_y») (k .«least_y»))
 
 abbrev corner : (p q : Bounds) → (finite (corner-x p q) ≡ true) × (finite (corner-y p q) ≡ true) → HoldsPoint p (corner-x p q) (corner-y p q)
     → HoldsPoint q (corner-x p q) (corner-y p q) → Shares p q
@@ -112,8 +113,8 @@ pub meets-shares-words : (p q : Bounds) → Words p → Words q → goodForm p �
 meets-shares-words p q v w g h e =
     let m = meets-four p q e in (
       corner p q (corner-finite p q g h) (corner-in-first p q g m) (corner-in-second p q h m),
-      greater-has IsWord (p .least-x) (q .least-x) (v .least-x) (w .least-x),
-      greater-has IsWord (p .least-y) (q .least-y) (v .least-y) (w .least-y),
+      greater-has IsWord (p .«least_x») (q .«least_x») (v .«least_x») (w .«least_x»),
+      greater-has IsWord (p .«least_y») (q .«least_y») (v .«least_y») (w .«least_y»),
     )
 
 -- exactly when
@@ -121,11 +122,11 @@ pub meets-exactly : (p q : Bounds) → goodForm p ≡ true → goodForm q ≡ tr
 meets-exactly p q g h = (meets-shares p q g h, shares-meets p q)
 
 -- the order of the two doesn't matter
-turned : (p q : Bounds) → meets p q ≡ true → meets q p ≡ true
-turned p q e = let m = meets-four p q e in four-meets q p (record { x = m .x′; x′ = m .x; y = m .y′; y′ = m .y })
+flipped : (p q : Bounds) → meets p q ≡ true → meets q p ≡ true
+flipped p q e = let m = meets-four p q e in four-meets q p (record { x = m .x′; x′ = m .x; y = m .y′; y′ = m .y })
 
 pub meets-sym : (p q : Bounds) → meets p q ≡ meets q p
-meets-sym p q = same-test (meets p q) (meets q p) (λ t. T-true (turned p q (true-T (meets p q) t))) (λ t. T-true (turned q p (true-T (meets q p) t)))
+meets-sym p q = same-test (meets p q) (meets q p) (λ t. T-true (flipped p q (true-T (meets p q) t))) (λ t. T-true (flipped q p (true-T (meets q p) t)))
 
 -- ---- a box that misses
 
@@ -134,10 +135,10 @@ pub covers-meets : (p q r : Bounds) → Covers p q → meets q r ≡ true → me
 covers-meets p q r c e =
     let m = meets-four q r e in
     four-meets p r (record {
-      x = at-most-trans (p .least-x) (q .least-x) (r .greatest-x) (c .from-x) (m .x);
-      x′ = at-most-trans (r .least-x) (q .greatest-x) (p .greatest-x) (m .x′) (c .to-x);
-      y = at-most-trans (p .least-y) (q .least-y) (r .greatest-y) (c .from-y) (m .y);
-      y′ = at-most-trans (r .least-y) (q .greatest-y) (p .greatest-y) (m .y′) (c .to-y);
+      x = at-most-trans (p .«least_x») (q .«least_x») (r .«greatest_x») (c .from-x) (m .x);
+      x′ = at-most-trans (r .«least_x») (q .«greatest_x») (p .«greatest_x») (m .x′) (c .to-x);
+      y = at-most-trans (p .«least_y») (q .«least_y») (r .«greatest_y») (c .from-y) (m .y);
+      y′ = at-most-trans (r .«least_y») (q .«greatest_y») (p .«greatest_y») (m .y′) (c .to-y);
     })
 
 pub covers-misses : (p q r : Bounds) → Covers p q → meets p r ≡ false → meets q r ≡ false

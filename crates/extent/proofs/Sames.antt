@@ -3,7 +3,8 @@ use mathlib.Core.Path.{_≡_, refl, _∙_}
 use mathlib.Core.Bool.{true}
 use Prim.Native.Nat.{ℕ}
 use Rattle.extent.specs.Rank.{sameValue}
-use Rattle.extent.specs.Boxes.{Bounds, sameBox, meets}
+use Rattle.extent.specs.declared.bounds.Bounds.{Bounds}
+use Rattle.extent.specs.Boxes.{sameBox, meets}
 use Rattle.extent.proofs.Tests.{same-test, T-true, true-T, all-four, four-all}
 use Rattle.extent.proofs.Ranks.{same-rank, rank-same, same-at-most, same-sym}
 use Rattle.extent.proofs.Boxed.{Covers}
@@ -11,24 +12,24 @@ use Rattle.extent.proofs.Meeting.{meets-sym, covers-meets}
 
 -- one by one
 pub record Sames (p q : Bounds) : Type 0 where
-  pub least-x : sameValue (p .least-x) (q .least-x) ≡ true
-  pub least-y : sameValue (p .least-y) (q .least-y) ≡ true
-  pub greatest-x : sameValue (p .greatest-x) (q .greatest-x) ≡ true
-  pub greatest-y : sameValue (p .greatest-y) (q .greatest-y) ≡ true
+  pub «least_x» : sameValue (p .«least_x») (q .«least_x») ≡ true
+  pub «least_y» : sameValue (p .«least_y») (q .«least_y») ≡ true
+  pub «greatest_x» : sameValue (p .«greatest_x») (q .«greatest_x») ≡ true
+  pub «greatest_y» : sameValue (p .«greatest_y») (q .«greatest_y») ≡ true
 
 pub same-four : (p q : Bounds) → sameBox p q ≡ true → Sames p q
 unfolding sameBox
 same-four p q e =
-    let w = all-four (sameValue (p .least-x) (q .least-x)) (sameValue (p .least-y) (q .least-y)) (sameValue (p .greatest-x) (q .greatest-x)) (sameValue (p .greatest-y) (q .greatest-y)) e in
-    record { least-x = w .0; least-y = w .1; greatest-x = w .2; greatest-y = w .3 }
+    let w = all-four (sameValue (p .«least_x») (q .«least_x»)) (sameValue (p .«least_y») (q .«least_y»)) (sameValue (p .«greatest_x») (q .«greatest_x»)) (sameValue (p .«greatest_y») (q .«greatest_y»)) e in
+    record { «least_x» = w .0; «least_y» = w .1; «greatest_x» = w .2; «greatest_y» = w .3 }
 
 pub four-same : (p q : Bounds) → Sames p q → sameBox p q ≡ true
 unfolding sameBox
-four-same p q s = four-all _ _ _ _ (s .least-x) (s .least-y) (s .greatest-x) (s .greatest-y)
+four-same p q s = four-all _ _ _ _ (s .«least_x») (s .«least_y») (s .«greatest_x») (s .«greatest_y»)
 
 -- a box is the same as itself
 pub same-box-refl : (p : Bounds) → sameBox p p ≡ true
-same-box-refl p = four-same p p (record { least-x = itself (p .least-x); least-y = itself (p .least-y); greatest-x = itself (p .greatest-x); greatest-y = itself (p .greatest-y) })
+same-box-refl p = four-same p p (record { «least_x» = itself (p .«least_x»); «least_y» = itself (p .«least_y»); «greatest_x» = itself (p .«greatest_x»); «greatest_y» = itself (p .«greatest_y») })
   where
     itself : (a : ℕ) → sameValue a a ≡ true
     itself a = rank-same a a refl
@@ -37,10 +38,10 @@ pub same-box-sym : (p q : Bounds) → sameBox p q ≡ true → sameBox q p ≡ t
 same-box-sym p q e =
     let s = same-four p q e in
     four-same q p (record {
-      least-x = same-sym (p .least-x) (q .least-x) (s .least-x);
-      least-y = same-sym (p .least-y) (q .least-y) (s .least-y);
-      greatest-x = same-sym (p .greatest-x) (q .greatest-x) (s .greatest-x);
-      greatest-y = same-sym (p .greatest-y) (q .greatest-y) (s .greatest-y);
+      «least_x» = same-sym (p .«least_x») (q .«least_x») (s .«least_x»);
+      «least_y» = same-sym (p .«least_y») (q .«least_y») (s .«least_y»);
+      «greatest_x» = same-sym (p .«greatest_x») (q .«greatest_x») (s .«greatest_x»);
+      «greatest_y» = same-sym (p .«greatest_y») (q .«greatest_y») (s .«greatest_y»);
     })
 
 pub same-covers : (p q : Bounds) → sameBox p q ≡ true → Covers p q
@@ -48,10 +49,10 @@ same-covers p q e =
     let s = same-four p q e in
     let t = same-four q p (same-box-sym p q e) in
     record {
-      from-x = same-at-most (p .least-x) (q .least-x) (s .least-x);
-      from-y = same-at-most (p .least-y) (q .least-y) (s .least-y);
-      to-x = same-at-most (q .greatest-x) (p .greatest-x) (t .greatest-x);
-      to-y = same-at-most (q .greatest-y) (p .greatest-y) (t .greatest-y);
+      from-x = same-at-most (p .«least_x») (q .«least_x») (s .«least_x»);
+      from-y = same-at-most (p .«least_y») (q .«least_y») (s .«least_y»);
+      to-x = same-at-most (q .«greatest_x») (p .«greatest_x») (t .«greatest_x»);
+      to-y = same-at-most (q .«greatest_y») (p .«greatest_y») (t .«greatest_y»);
     }
 
 -- whatever the box r
@@ -73,10 +74,10 @@ box-on r p q e g =
     let s = same-four r p e in
     let t = same-four p q g in
     four-same r q (record {
-      least-x = same-on (r .least-x) (p .least-x) (q .least-x) (s .least-x) (t .least-x);
-      least-y = same-on (r .least-y) (p .least-y) (q .least-y) (s .least-y) (t .least-y);
-      greatest-x = same-on (r .greatest-x) (p .greatest-x) (q .greatest-x) (s .greatest-x) (t .greatest-x);
-      greatest-y = same-on (r .greatest-y) (p .greatest-y) (q .greatest-y) (s .greatest-y) (t .greatest-y);
+      «least_x» = same-on (r .«least_x») (p .«least_x») (q .«least_x») (s .«least_x») (t .«least_x»);
+      «least_y» = same-on (r .«least_y») (p .«least_y») (q .«least_y») (s .«least_y») (t .«least_y»);
+      «greatest_x» = same-on (r .«greatest_x») (p .«greatest_x») (q .«greatest_x») (s .«greatest_x») (t .«greatest_x»);
+      «greatest_y» = same-on (r .«greatest_y») (p .«greatest_y») (q .«greatest_y») (s .«greatest_y») (t .«greatest_y»);
     })
 
 pub same-same : (r p q : Bounds) → sameBox p q ≡ true → sameBox r p ≡ sameBox r q

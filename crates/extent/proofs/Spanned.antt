@@ -6,11 +6,13 @@ use mathlib.Core.List.{List, [], _∷_}
 use Prim.Native.Nat.{ℕ, suc, _^_, _≤_, _<_, zero-le, suc-le-suc}
 use native.Mathlib.Omega.{arith}
 use lib.ListN.{length, getD, drop}
-use Rattle.answer.specs.Every.{allOf}
+use Rattle.answer.specs.All.{allOf}
 use Rattle.answer.proofs.Both.{both, both-l, both-r, not-true, no-both}
+use Rattle.le.specs.Number.{Fits}
 use Rattle.extent.specs.Rank.{finite, allFinite, key}
-use Rattle.extent.specs.Boxes.{Bounds, FiniteBox, fourFinite, patterns, sameBox, boxOf, spotOf}
-use Rattle.extent.specs.Span.{lower, higher, higherTurned, carried, spanFrom, spanOf, leastIn, greatestIn, Spans, firstAs}
+use Rattle.extent.specs.declared.bounds.Bounds.{Bounds}
+use Rattle.extent.specs.Boxes.{FiniteBox, fourFinite, patterns, sameBox, boxOf, spotOf}
+use Rattle.extent.specs.Span.{lower, higher, higherFlipped, carried, spanFrom, spanOf, leastIn, greatestIn, Spans, firstAs}
 use Rattle.extent.specs.Forms.{boundsFrom, ValueBox}
 use Rattle.extent.specs.FirstMet.{AtMost, Under, AtLeast, Above, Met}
 use Rattle.extent.specs.declared.boxes.Box.{Box}
@@ -26,16 +28,12 @@ use Rattle.extent.proofs.Zeros.{least-zero, greatest-zero, first-as}
 
 -- ---- the span, as the walk makes it
 
--- each is a word
-abbrev pub AllWords : List ℕ → Type 0
-AllWords l = (i : ℕ) → i < length l → getD l i 0 < 2 ^ 64
-
-pub span-made : (l : List ℕ) (s : Span) → 0 < length l → AllWords l
-    → s ≡ spanFrom (carried lower (getD l 0 0) (drop 1 l)) (carried higher (getD l 0 0) (drop 1 l)) (carried higherTurned (getD l 0 0) (drop 1 l))
+pub span-made : (l : List ℕ) (s : Span) → 0 < length l → Fits 64 l
+    → s ≡ spanFrom (carried lower (getD l 0 0) (drop 1 l)) (carried higher (getD l 0 0) (drop 1 l)) (carried higherFlipped (getD l 0 0) (drop 1 l))
     → (s ≡ spanOf l) × Spans l s
 unfolding spanOf
 span-made [] s h w e = absurd (omega arith)
-span-made (v ∷ vs) s h w e = (e, subst (Spans (v ∷ vs)) (sym e) (span-spans v vs w))
+span-made (v ∷ vs) s h w e = (e, subst (Spans (v ∷ vs)) (sym e) (span-spans v vs (λ i j. w i)))
 
 -- ---- the least and the greatest of a list with a value
 
@@ -80,12 +78,12 @@ module _ (l : List ℕ) (s : Span) (h : 0 < length l) (k : Spans l s) where
           omega (arith, e, m)
 
   -- the first met of two zeros
-  module _ (w : AllWords l) where
+  module _ (w : Fits 64 l) where
     least-word : leastIn l < 2 ^ 64
-    least-word = let m = least-in l h in subst (λ (b : ℕ). b < 2 ^ 64) (sym (m .found)) (w (m .place) (m .inside))
+    least-word = let m = least-in l h in subst (λ (b : ℕ). b < 2 ^ 64) (sym (m .found)) (w (m .place))
 
     greatest-word : greatestIn l < 2 ^ 64
-    greatest-word = let m = greatest-in l h in subst (λ (b : ℕ). b < 2 ^ 64) (sym (m .found)) (w (m .place) (m .inside))
+    greatest-word = let m = greatest-in l h in subst (λ (b : ℕ). b < 2 ^ 64) (sym (m .found)) (w (m .place))
 
     pub first-least : s .least < 2 ^ 64 → firstAs l (s .least) ≡ leastIn l
     first-least v = first-as l (s .least) (leastIn l) v least-word (k .least) (λ z. least-zero l (leastIn l) z (least-in l h))
@@ -96,7 +94,7 @@ module _ (l : List ℕ) (s : Span) (h : 0 < length l) (k : Spans l s) where
 -- ---- the box of two lists
 
 pub box-in : (xs ys : List ℕ) → 0 < length xs → 0 < length ys
-    → boxOf xs ys ≡ record { least-x = leastIn xs; least-y = leastIn ys; greatest-x = greatestIn xs; greatest-y = greatestIn ys }
+    → boxOf xs ys ≡ record { «least_x» = leastIn xs; «least_y» = leastIn ys; «greatest_x» = greatestIn xs; «greatest_y» = greatestIn ys }
 unfolding boxOf leastIn greatestIn
 box-in [] ys h k = absurd (omega arith)
 box-in (x ∷ xs) [] h k = absurd (omega arith)
@@ -109,20 +107,20 @@ module _ (xs ys : List ℕ) (x y : Span) (h : 0 < length xs) (l : length ys ≡ 
   in-value : sameBox (boundsFrom x y) (boxOf xs ys) ≡ true
   in-value =
       ap (sameBox (boundsFrom x y)) (box-in xs ys h some-y)
-      ∙ four-same (boundsFrom x y) _ (record { least-x = p .1 .least; least-y = q .1 .least; greatest-x = p .1 .greatest; greatest-y = q .1 .greatest })
+      ∙ four-same (boundsFrom x y) _ (record { «least_x» = p .1 .least; «least_y» = q .1 .least; «greatest_x» = p .1 .greatest; «greatest_y» = q .1 .greatest })
 
   -- its four patterns are finite where all are
   pub spans-finite : allFinite xs ≡ true → allFinite ys ≡ true → FiniteBox (boundsFrom x y)
   spans-finite f g = record {
-    least-x = least-finite xs x h (p .1) f;
-    least-y = least-finite ys y some-y (q .1) g;
-    greatest-x = greatest-finite xs x h (p .1) f;
-    greatest-y = greatest-finite ys y some-y (q .1) g;
+    «least_x» = least-finite xs x h (p .1) f;
+    «least_y» = least-finite ys y some-y (q .1) g;
+    «greatest_x» = greatest-finite xs x h (p .1) f;
+    «greatest_y» = greatest-finite ys y some-y (q .1) g;
   }
 
   -- and only there
   pub finite-spans : FiniteBox (boundsFrom x y) → (allFinite xs && allFinite ys) ≡ true
-  finite-spans f = both (ends-finite xs x h (p .1) (f .least-x) (f .greatest-x)) (ends-finite ys y some-y (q .1) (f .least-y) (f .greatest-y))
+  finite-spans f = both (ends-finite xs x h (p .1) (f .«least_x») (f .«greatest_x»)) (ends-finite ys y some-y (q .1) (f .«least_y») (f .«greatest_y»))
 
   pub not-finite-spans : fourFinite (boundsFrom x y) ≡ false → (allFinite xs && allFinite ys) ≡ false
   not-finite-spans e =
@@ -138,19 +136,25 @@ module _ (xs ys : List ℕ) (x y : Span) (h : 0 < length xs) (l : length ys ≡ 
   }
 
   -- the box that is stored
-  pub first-made : AllWords xs → AllWords ys → (s t u v : ℕ) → x .least < 2 ^ 64 → y .least < 2 ^ 64 → x .greatest < 2 ^ 64 → y .greatest < 2 ^ 64
+  pub first-made : Fits 64 xs → Fits 64 ys → (s t u v : ℕ) → x .least < 2 ^ 64 → y .least < 2 ^ 64 → x .greatest < 2 ^ 64 → y .greatest < 2 ^ 64
       → s ≡ firstAs xs (x .least) → t ≡ firstAs ys (y .least) → u ≡ firstAs xs (x .greatest) → v ≡ firstAs ys (y .greatest)
-      → record { least-x = s; least-y = t; greatest-x = u; greatest-y = v } ≡ boxOf xs ys
+      → record { «least_x» = s; «least_y» = t; «greatest_x» = u; «greatest_y» = v } ≡ boxOf xs ys
   first-made wx wy s t u v a b c d e f g k =
       (λ i. record {
-        least-x = (e ∙ first-least xs x h (p .1) wx a) i;
-        least-y = (f ∙ first-least ys y some-y (q .1) wy b) i;
-        greatest-x = (g ∙ first-greatest xs x h (p .1) wx c) i;
-        greatest-y = (k ∙ first-greatest ys y some-y (q .1) wy d) i;
+        «least_x» = (e ∙ first-least xs x h (p .1) wx a) i;
+        «least_y» = (f ∙ first-least ys y some-y (q .1) wy b) i;
+        «greatest_x» = (g ∙ first-greatest xs x h (p .1) wx c) i;
+        «greatest_y» = (k ∙ first-greatest ys y some-y (q .1) wy d) i;
       })
       ∙ sym (box-in xs ys h some-y)
 
--- no vertex: the box of nothing
+-- of no vertex, all zero
+pub no-bounds : (xs ys : List ℕ) → length xs ≡ 0 → spotOf 0 0 ≡ boxOf xs ys
+unfolding boxOf
+no-bounds [] ys e = refl
+no-bounds (x ∷ xs) ys e = absurd (omega arith)
+
+-- and so the box of nothing
 pub boxes-none : (xs ys : List ℕ) (b : Box) → length xs ≡ 0 → length ys ≡ length xs → patterns b ≡ spotOf 0 0 → ((allFinite xs && allFinite ys) ≡ true) × ValueBox xs ys b
 unfolding spanOf boxOf allOf
 boxes-none [] [] b h l e = (

@@ -11,7 +11,7 @@ use lib.Dec.{ltb}
 use lib.ListN.{length, getD}
 use Rattle.extent.specs.Rank.{key}
 use Rattle.extent.specs.Boxes.{leastOf, greatestOf}
-use Rattle.extent.specs.Span.{lower, higher, turned, higherTurned, carried, bySign, spanFrom, leastIn, greatestIn, Spans}
+use Rattle.extent.specs.Span.{lower, higher, flipped, higherFlipped, carried, bySign, spanFrom, leastIn, greatestIn, Spans}
 use Rattle.extent.specs.declared.span.Span.{Span}
 use Rattle.extent.proofs.Finite.{chosen}
 use Rattle.extent.proofs.Keys.{key-plus, key-minus, at-most-le, eq-same}
@@ -27,7 +27,7 @@ abbrev AtHigh : ℕ → ℕ → Type 0
 AtHigh a b = b ≤ a
 
 abbrev AtTurned : ℕ → ℕ → Type 0
-AtTurned a b = turned b ≤ turned a
+AtTurned a b = flipped b ≤ flipped a
 
 -- a choice by a test of two numbers that f gives of each
 module _ (m : ℕ → ℕ) (a v : ℕ) where
@@ -73,25 +73,25 @@ highest = record {
   has = λ P a v p q. chosen P (ltb a v) v a q p;
 }
 
-highest-turned : Chooses higherTurned AtTurned
-unfolding higherTurned
-highest-turned = record {
-  same = λ a. le-refl (turned a);
+highest-flipped : Chooses higherFlipped AtTurned
+unfolding higherFlipped
+highest-flipped = record {
+  same = λ a. le-refl (flipped a);
   through = λ a b c p q. le-trans q p;
-  first = higher-first turned;
-  second = higher-second turned;
-  has = λ P a v p q. chosen P (ltb (turned a) (turned v)) v a q p;
+  first = higher-first flipped;
+  second = higher-second flipped;
+  has = λ P a v p q. chosen P (ltb (flipped a) (flipped v)) v a q p;
 }
 
 -- ---- what they are in value
 
-turned-plus : (b : ℕ) → b < 2 ^ 63 → turned b ≡ b + 2 ^ 63
-unfolding turned
-turned-plus b h = ap (λ (t : Bool). cond t (b + 2 ^ 63) (b - 2 ^ 63)) (lt-ltb b (2 ^ 63) h)
+flipped-plus : (b : ℕ) → b < 2 ^ 63 → flipped b ≡ b + 2 ^ 63
+unfolding flipped
+flipped-plus b h = ap (λ (t : Bool). cond t (b + 2 ^ 63) (b - 2 ^ 63)) (lt-ltb b (2 ^ 63) h)
 
-turned-minus : (b : ℕ) → 2 ^ 63 ≤ b → turned b ≡ b - 2 ^ 63
-unfolding turned
-turned-minus b h = ap (λ (t : Bool). cond t (b + 2 ^ 63) (b - 2 ^ 63)) (le-ltb b (2 ^ 63) h)
+flipped-minus : (b : ℕ) → 2 ^ 63 ≤ b → flipped b ≡ b - 2 ^ 63
+unfolding flipped
+flipped-minus b h = ap (λ (t : Bool). cond t (b + 2 ^ 63) (b - 2 ^ 63)) (le-ltb b (2 ^ 63) h)
 
 -- by the sign bit of x
 by-sign : (P : Type 0) (x : ℕ) → (x < 2 ^ 63 → P) → (2 ^ 63 ≤ x → P) → P
@@ -118,17 +118,17 @@ greatest-minus : (low x : ℕ) → low ≤ x → 2 ^ 63 ≤ low → x < 2 ^ 64 �
 greatest-minus low x p h w = let a = key-minus low h (omega arith) in let b = key-minus x (omega arith) w in omega (arith, a, b)
 
 -- the sign bit of the lowest is 0: the highest with its sign bit turned over is the greatest
-greatest-plus : (low up x : ℕ) → turned low ≤ turned up → turned x ≤ turned up → low < 2 ^ 63 → up < 2 ^ 64 → x < 2 ^ 64 → key x ≤ key up
+greatest-plus : (low up x : ℕ) → flipped low ≤ flipped up → flipped x ≤ flipped up → low < 2 ^ 63 → up < 2 ^ 64 → x < 2 ^ 64 → key x ≤ key up
 greatest-plus low up x p q h w z =
-    let l = turned-plus low h in
-    by-sign (key x ≤ key up) up (plus l) (λ s. let t = turned-minus up s in absurd (omega (arith, l, t)))
+    let l = flipped-plus low h in
+    by-sign (key x ≤ key up) up (plus l) (λ s. let t = flipped-minus up s in absurd (omega (arith, l, t)))
   where
-    plus : turned low ≡ low + 2 ^ 63 → up < 2 ^ 63 → key x ≤ key up
+    plus : flipped low ≡ low + 2 ^ 63 → up < 2 ^ 63 → key x ≤ key up
     plus l s =
-        let t = turned-plus up s in
+        let t = flipped-plus up s in
         let a = key-plus up s in
         by-sign (key x ≤ key up) x
-        (λ r. let b = key-plus x r in let u = turned-plus x r in omega (arith, a, b, t, u))
+        (λ r. let b = key-plus x r in let u = flipped-plus x r in omega (arith, a, b, t, u))
         (λ r. let b = key-minus x r z in omega (arith, a, b))
 
 -- ---- the span of a list of words
@@ -144,7 +144,7 @@ module _ (v : ℕ) (vs : List ℕ) (word : (i : ℕ) → i < length (v ∷ vs) �
   high = carried higher v vs
 
   abbrev up : ℕ
-  up = carried higherTurned v vs
+  up = carried higherFlipped v vs
 
   abbrev IsWord : ℕ → Type 0
   IsWord b = b < 2 ^ 64
@@ -161,13 +161,13 @@ module _ (v : ℕ) (vs : List ℕ) (word : (i : ℕ) → i < length (v ∷ vs) �
   unfolding bySign
   greatest-over i h = go (ltb low (2 ^ 63)) refl
     where
-      low-turned : turned low ≤ turned up
-      low-turned = carried-has lower AtLow lowest (λ (b : ℕ). turned b ≤ turned up) v vs (carried-best higherTurned AtTurned highest-turned v vs)
+      low-flipped : flipped low ≤ flipped up
+      low-flipped = carried-has lower AtLow lowest (λ (b : ℕ). flipped b ≤ flipped up) v vs (carried-best higherFlipped AtTurned highest-flipped v vs)
 
       go : (t : Bool) → ltb low (2 ^ 63) ≡ t → key (getD l i 0) ≤ key (cond t up low)
       go true e =
-          greatest-plus low up (getD l i 0) low-turned (carried-best higherTurned AtTurned highest-turned v vs i h) (ltb-true low (2 ^ 63) e)
-          (carried-has higherTurned AtTurned highest-turned IsWord v vs word) (word i h)
+          greatest-plus low up (getD l i 0) low-flipped (carried-best higherFlipped AtTurned highest-flipped v vs i h) (ltb-true low (2 ^ 63) e)
+          (carried-has higherFlipped AtTurned highest-flipped IsWord v vs word) (word i h)
       go false e = greatest-minus low (getD l i 0) (carried-best lower AtLow lowest v vs i h) (ltb-false low (2 ^ 63) e) (word i h)
 
   -- each of the two has what each of the list has
@@ -177,7 +177,7 @@ module _ (v : ℕ) (vs : List ℕ) (word : (i : ℕ) → i < length (v ∷ vs) �
 
   greatest-has : (P : ℕ → Type 0) → ((i : ℕ) → i < length l → P (getD l i 0)) → P (bySign low up low)
   unfolding bySign
-  greatest-has P p = chosen P (ltb low (2 ^ 63)) up low (carried-has higherTurned AtTurned highest-turned P v vs p) (carried-has lower AtLow lowest P v vs p)
+  greatest-has P p = chosen P (ltb low (2 ^ 63)) up low (carried-has higherFlipped AtTurned highest-flipped P v vs p) (carried-has lower AtLow lowest P v vs p)
 
   -- so they are its least and its greatest in value
   pub span-spans : Spans l (spanFrom low high up)

@@ -6,7 +6,7 @@ use mathlib.Core.Bool.{true}
 use mathlib.Core.List.{List}
 use lib.ListN.{length, getD}
 use Rattle.extent.specs.Rank.{atMost, below}
-use Rattle.extent.specs.Boxes.{Bounds}
+use Rattle.extent.specs.declared.bounds.Bounds.{Bounds}
 
 -- the value of a is at most that of b
 abbrev pub AtMost : ℕ → ℕ → Type 0
@@ -34,7 +34,7 @@ pub record Met (R S : ℕ → ℕ → Type 0) (l : List ℕ) (v : ℕ) : Type 0 
 
 -- of a box, each of the four is the first met of its least or greatest
 pub record Boxed (xs ys : List ℕ) (p : Bounds) : Type 0 where
-  pub least-x : Met AtMost Under xs (p .least-x)
-  pub least-y : Met AtMost Under ys (p .least-y)
-  pub greatest-x : Met AtLeast Above xs (p .greatest-x)
-  pub greatest-y : Met AtLeast Above ys (p .greatest-y)
+  pub «least_x» : Met AtMost Under xs (p .«least_x»)
+  pub «least_y» : Met AtMost Under ys (p .«least_y»)
+  pub «greatest_x» : Met AtLeast Above xs (p .«greatest_x»)
+  pub «greatest_y» : Met AtLeast Above ys (p .«greatest_y»)

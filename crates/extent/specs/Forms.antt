@@ -6,7 +6,8 @@ use Prim.Native.Nat.{ℕ}
 use lib.Dec.{T}
 use lib.Ieee.{binary64, ofBits, fits}
 use Rattle.extent.specs.Rank.{finite, allFinite, atMost}
-use Rattle.extent.specs.Boxes.{Bounds, FiniteBox, patterns, goodForm, sameBox, boxOf}
+use Rattle.extent.specs.declared.bounds.Bounds.{Bounds}
+use Rattle.extent.specs.Boxes.{FiniteBox, patterns, goodForm, sameBox, boxOf}
 use Rattle.extent.specs.Span.{spanOf}
 use Rattle.extent.specs.declared.boxes.Box.{Box}
 use Rattle.extent.specs.declared.boxes.Form.{Form}
@@ -16,10 +17,10 @@ use Rattle.extent.specs.declared.span.Span.{Span}
 -- the box of four patterns
 abbrev pub floatsOf : Bounds → Box
 floatsOf p = record {
-  «least_x» = ofBits binary64 (p .least-x);
-  «least_y» = ofBits binary64 (p .least-y);
-  «greatest_x» = ofBits binary64 (p .greatest-x);
-  «greatest_y» = ofBits binary64 (p .greatest-y);
+  «least_x» = ofBits binary64 (p .«least_x»);
+  «least_y» = ofBits binary64 (p .«least_y»);
+  «greatest_x» = ofBits binary64 (p .«greatest_x»);
+  «greatest_y» = ofBits binary64 (p .«greatest_y»);
 }
 
 -- b is the box of four patterns, and has these patterns
@@ -28,10 +29,10 @@ Made p b = (b ≡ floatsOf p) × (patterns b ≡ p)
 
 -- each of the four is a 64-bit float, as those of each box that a program holds are
 pub record FitsBox (b : Box) : Type 0 where
-  pub least-x : T (fits binary64 (b .«least_x»))
-  pub least-y : T (fits binary64 (b .«least_y»))
-  pub greatest-x : T (fits binary64 (b .«greatest_x»))
-  pub greatest-y : T (fits binary64 (b .«greatest_y»))
+  pub «least_x» : T (fits binary64 (b .«least_x»))
+  pub «least_y» : T (fits binary64 (b .«least_y»))
+  pub «greatest_x» : T (fits binary64 (b .«greatest_x»))
+  pub «greatest_y» : T (fits binary64 (b .«greatest_y»))
 
 -- the box, if it is of good form, for inner steps; no service speaks of it
 unfoldable pub formOf : Bounds → Form
@@ -45,7 +46,7 @@ goodAxis least greatest = finite least && finite greatest && atMost least greate
 
 -- the bounds of a span of x and a span of y
 abbrev pub boundsFrom : Span → Span → Bounds
-boundsFrom x y = record { least-x = x .least; least-y = y .least; greatest-x = x .greatest; greatest-y = y .greatest }
+boundsFrom x y = record { «least_x» = x .least; «least_y» = y .least; «greatest_x» = x .greatest; «greatest_y» = y .greatest }
 
 -- b is in value the box of the vertices, with the patterns that their spans have
 pub record ValueBox (xs ys : List ℕ) (b : Box) : Type 0 where

@@ -18,12 +18,12 @@ unfoldable pub higher : ℕ → ℕ → ℕ
 higher a v = cond (ltb a v) v a
 
 -- a pattern with its sign bit turned over
-unfoldable pub turned : ℕ → ℕ
-turned b = cond (ltb b (2 ^ 63)) (b + 2 ^ 63) (b - 2 ^ 63)
+unfoldable pub flipped : ℕ → ℕ
+flipped b = cond (ltb b (2 ^ 63)) (b + 2 ^ 63) (b - 2 ^ 63)
 
 -- of two patterns the one that is higher with its sign bit turned over
-unfoldable pub higherTurned : ℕ → ℕ → ℕ
-higherTurned a v = cond (ltb (turned a) (turned v)) v a
+unfoldable pub higherFlipped : ℕ → ℕ → ℕ
+higherFlipped a v = cond (ltb (flipped a) (flipped v)) v a
 
 -- a choice of two, carried through a list
 unfoldable pub carried : (ℕ → ℕ → ℕ) → ℕ → List ℕ → ℕ
@@ -42,7 +42,7 @@ spanFrom low high up = record { least = bySign high low high; greatest = bySign 
 -- the span of a list; of no value, zero
 unfoldable pub spanOf : List ℕ → Span
 spanOf [] = record { least = 0; greatest = 0 }
-spanOf (v ∷ vs) = spanFrom (carried lower v vs) (carried higher v vs) (carried higherTurned v vs)
+spanOf (v ∷ vs) = spanFrom (carried lower v vs) (carried higher v vs) (carried higherFlipped v vs)
 
 -- ---- what it is in value
 

@@ -4,16 +4,17 @@ ghost use mathlib.Core.Bool.{true};
 ghost use Prim.Native.Nat.{_<_};
 ghost use lib.ListN.{length};
 ghost use Rattle.extent.specs.Rank.{allFinite};
-ghost use Rattle.extent.specs.Boxes.{patterns, FiniteBox, fourFinite, inOrder, goodForm, sameBox, meets, boxOf};
-ghost use Rattle.extent.specs.Forms.{formOf, Made, ValueBox, ValueForm};
-use crate::rank::finite;
+ghost use Rattle.extent.specs.Boxes.{patterns, FiniteBox, fourFinite, inOrder, goodForm, sameBox, meets};
+ghost use Rattle.extent.specs.Forms.{formOf, Made, boundsFrom, ValueBox, ValueForm};
+use crate::bounds::Bounds;
+use crate::bounds::four_finite;
+use crate::bounds::good_patterns;
 use crate::rank::finite_float;
 use crate::rank::float_of;
-use crate::span::first_as;
+use crate::span::Span;
 use crate::span::span_of;
 use crate::value::float_at_most;
 use crate::value::float_same;
-use crate::value::good_axis;
 
 // A box is four floats.
 pub struct Box {
@@ -54,15 +55,27 @@ pub fn same_value(a: Box, b: Box) -> bool
 }
 
 // The box of four finite patterns.
-fn box_with(least_x: u64, least_y: u64, greatest_x: u64, greatest_y: u64) -> Box
-    requires { ⌜ FiniteBox (record { least-x = «least_x»; least-y = «least_y»; greatest-x = «greatest_x»; greatest-y = «greatest_y» }) ⌝ }
-    ensures { λ r. ⌜ Made (record { least-x = «least_x»; least-y = «least_y»; greatest-x = «greatest_x»; greatest-y = «greatest_y» }) r ⌝ }
+pub fn box_with(p: Bounds) -> Box
+    requires { ⌜ FiniteBox p ⌝ }
+    ensures { λ r. ⌜ Made p r ⌝ }
 {
     Box {
-        least_x: float_of(least_x),
-        least_y: float_of(least_y),
-        greatest_x: float_of(greatest_x),
-        greatest_y: float_of(greatest_y),
+        least_x: float_of(p.least_x),
+        least_y: float_of(p.least_y),
+        greatest_x: float_of(p.greatest_x),
+        greatest_y: float_of(p.greatest_y),
+    }
+}
+
+// The bounds of a span of x and a span of y.
+fn bounds_from(x: Span, y: Span) -> Bounds
+    ensures { λ r. ⌜ r ≡ boundsFrom x y ⌝ }
+{
+    Bounds {
+        least_x: x.least,
+        least_y: y.least,
+        greatest_x: x.greatest,
+        greatest_y: y.greatest,
     }
 }
 
@@ -71,24 +84,7 @@ pub fn box_of(xs: &[u64], ys: &[u64]) -> Box
     requires { ⌜ (0 < length (now xs)) × (length (now ys) ≡ length (now xs)) × (allFinite (now xs) ≡ true) × (allFinite (now ys) ≡ true) ⌝ }
     ensures { λ r. ⌜ ValueBox (now (xs .entry)) (now (ys .entry)) r ⌝ }
 {
-    let x = span_of(xs);
-    let y = span_of(ys);
-    box_with(x.least, y.least, x.greatest, y.greatest)
-}
-
-// The box that is stored of all vertices, likewise: among equal values the first met.
-pub fn first_box(xs: &[u64], ys: &[u64]) -> Box
-    requires { ⌜ (0 < length (now xs)) × (length (now ys) ≡ length (now xs)) × (allFinite (now xs) ≡ true) × (allFinite (now ys) ≡ true) ⌝ }
-    ensures { λ r. ⌜ patterns r ≡ boxOf (now (xs .entry)) (now (ys .entry)) ⌝ }
-{
-    let x = span_of(xs);
-    let y = span_of(ys);
-    box_with(
-        first_as(xs, x.least),
-        first_as(ys, y.least),
-        first_as(xs, x.greatest),
-        first_as(ys, y.greatest),
-    )
+    box_with(bounds_from(span_of(xs), span_of(ys)))
 }
 
 // A box that came as four patterns, of good form or bad; or that of vertices, where all are finite.
@@ -97,52 +93,32 @@ pub enum Form {
     Bad,
 }
 
-// Whether four patterns are finite.
-fn four_finite(least_x: u64, least_y: u64, greatest_x: u64, greatest_y: u64) -> bool
-    ensures { λ r. ⌜ r ≡ fourFinite (record { least-x = «least_x»; least-y = «least_y»; greatest-x = «greatest_x»; greatest-y = «greatest_y» }) ⌝ }
-{
-    if finite(least_x) {
-        if finite(least_y) {
-            if finite(greatest_x) {
-                return finite(greatest_y);
-            }
-        }
-    }
-    false
-}
-
 // The box of all vertices in value, any patterns: all are finite exactly where the least and the greatest are.
 pub fn box_if_finite(xs: &[u64], ys: &[u64]) -> Form
     requires { ⌜ length (now ys) ≡ length (now xs) ⌝ }
     ensures { λ r. ⌜ ValueForm (now (xs .entry)) (now (ys .entry)) r ⌝ }
 {
     if xs.len() == 0 {
-        return Form::Good(box_with(0, 0, 0, 0));
+        return Form::Good(box_with(Bounds {
+            least_x: 0,
+            least_y: 0,
+            greatest_x: 0,
+            greatest_y: 0,
+        }));
     }
-    let x = span_of(xs);
-    let y = span_of(ys);
-    if four_finite(x.least, y.least, x.greatest, y.greatest) {
-        return Form::Good(box_with(x.least, y.least, x.greatest, y.greatest));
+    let p = bounds_from(span_of(xs), span_of(ys));
+    if four_finite(p) {
+        return Form::Good(box_with(p));
     }
     Form::Bad
 }
 
-// Whether four patterns, any patterns, are those of a box of good form.
-pub fn good_patterns(least_x: u64, least_y: u64, greatest_x: u64, greatest_y: u64) -> bool
-    ensures { λ r. ⌜ r ≡ goodForm (record { least-x = «least_x»; least-y = «least_y»; greatest-x = «greatest_x»; greatest-y = «greatest_y» }) ⌝ }
-{
-    if good_axis(least_x, greatest_x) {
-        return good_axis(least_y, greatest_y);
-    }
-    false
-}
-
 // The box of four patterns, any patterns.
-pub fn form_of(least_x: u64, least_y: u64, greatest_x: u64, greatest_y: u64) -> Form
-    ensures { λ r. ⌜ r ≡ formOf (record { least-x = «least_x»; least-y = «least_y»; greatest-x = «greatest_x»; greatest-y = «greatest_y» }) ⌝ }
+pub fn form_of(p: Bounds) -> Form
+    ensures { λ r. ⌜ r ≡ formOf p ⌝ }
 {
-    if good_patterns(least_x, least_y, greatest_x, greatest_y) {
-        return Form::Good(box_with(least_x, least_y, greatest_x, greatest_y));
+    if good_patterns(p) {
+        return Form::Good(box_with(p));
     }
     Form::Bad
 }

@@ -1,4 +1,5 @@
 // Boxes of coordinates: the order of finite values, by rank, and the boxes that hold vertices.
+pub mod bounds;
 pub mod boxes;
 pub mod rank;
 mod span;

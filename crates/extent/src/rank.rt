@@ -21,7 +21,7 @@ pub fn float_of(b: u64) -> f64
 }
 
 // The pattern of a finite float.
-pub fn bits_of(x: f64) -> u64
+pub(crate) fn bits_of(x: f64) -> u64
     requires { ⌜ finite (patternOf x) ≡ true ⌝ }
     ensures { λ r. ⌜ r ≡ patternOf x ⌝ }
 {

@@ -3,7 +3,7 @@
 ghost use mathlib.Core.Path.{_≡_};
 ghost use Prim.Native.Nat.{_<_};
 ghost use lib.ListN.{length};
-ghost use Rattle.extent.specs.Span.{lower, higher, turned, higherTurned, bySign, spanOf, Spans, firstZero, firstAs, isZero};
+ghost use Rattle.extent.specs.Span.{lower, higher, flipped, higherFlipped, bySign, spanOf, Spans, firstZero, firstAs, isZero};
 
 // The patterns of the least and of the greatest.
 pub struct Span {
@@ -32,8 +32,8 @@ fn higher(a: u64, v: u64) -> u64
 }
 
 // A pattern with its sign bit turned over.
-fn turned(b: u64) -> u64
-    ensures { λ r. ⌜ r ≡ turned b ⌝ }
+fn flipped(b: u64) -> u64
+    ensures { λ r. ⌜ r ≡ flipped b ⌝ }
 {
     if b < 0x8000_0000_0000_0000 {
         return b + 0x8000_0000_0000_0000;
@@ -42,10 +42,10 @@ fn turned(b: u64) -> u64
 }
 
 // Of two patterns the one that is higher with its sign bit turned over.
-fn higher_turned(a: u64, v: u64) -> u64
-    ensures { λ r. ⌜ r ≡ higherTurned a v ⌝ }
+fn higher_flipped(a: u64, v: u64) -> u64
+    ensures { λ r. ⌜ r ≡ higherFlipped a v ⌝ }
 {
-    if turned(a) < turned(v) {
+    if flipped(a) < flipped(v) {
         return v;
     }
     a
@@ -74,7 +74,7 @@ pub(crate) fn span_of(vs: &[u64]) -> Span
         let v = vs[i];
         low = lower(low, v);
         high = higher(high, v);
-        up = higher_turned(up, v);
+        up = higher_flipped(up, v);
         i += 1;
     }
     Span {

@@ -15,7 +15,7 @@ use lib.Seq.{drop-cons}
 use mir.Syntax.{w64}
 use mir.Val.{SFits, ofZ}
 use Rattle.answer.proofs.Both.{both-l, both-r}
-use Rattle.answer.specs.Every.{allOf}
+use Rattle.answer.specs.All.{allOf}
 use Rattle.grid.specs.Grid.{onGrid, wholeOf, allOnGrid}
 use Rattle.grid.specs.Turn.{edge, turnOf, clockwise, zeroTurn}
 use Rattle.grid.proofs.Sizes.{mul-within, add-within, sub-within}

@@ -5,7 +5,7 @@ use mathlib.Core.List.{List}
 use lib.Dec.{leb, eqb}
 use lib.IntN.{ℤ, pos}
 use lib.Ieee.{Float, nan, inf, fin, up, down, binary64, ofBits}
-use Rattle.answer.specs.Every.{allOf}
+use Rattle.answer.specs.All.{allOf}
 use Rattle.extent.specs.Rank.{signed}
 
 -- the size m * 2 ^ e, that is m * up e over down e, leaves nothing over and is at most 2 ^ 24; infinities and NaNs are off grid

@@ -4,6 +4,7 @@ ghost use mathlib.Core.Bool.{true};
 ghost use Prim.Native.Nat.{_^_, _≤_};
 ghost use lib.IntN.{natAbs};
 ghost use lib.ListN.{length};
+ghost use Rattle.answer.specs.Limits.{mostVertices};
 ghost use Rattle.grid.specs.Grid.{allOnGrid};
 ghost use Rattle.grid.specs.Turn.{edge, turnOf, clockwise, zeroTurn};
 use crate::whole::whole;
@@ -18,7 +19,7 @@ fn edge(x0: i64, y0: i64, x1: i64, y1: i64) -> i64
 
 // The turn of the ring of these vertices, by their x and their y. It fits: an edge is at most 2^49, so 2,048 are at most 2^60.
 pub fn turn(xs: &[u64], ys: &[u64]) -> i64
-    requires { ⌜ (length (now ys) ≡ length (now xs)) × (length (now xs) ≤ 2048) × (allOnGrid (now xs) ≡ true) × (allOnGrid (now ys) ≡ true) ⌝ }
+    requires { ⌜ (length (now ys) ≡ length (now xs)) × (length (now xs) ≤ mostVertices) × (allOnGrid (now xs) ≡ true) × (allOnGrid (now ys) ≡ true) ⌝ }
     ensures { λ r. ⌜ r ≡ turnOf (now (xs .entry)) (now (ys .entry)) ⌝ }
 {
     if xs.len() == 0 {

@@ -10,11 +10,11 @@ use Rattle.answer.specs.Table as Table
 use Rattle.answer.specs.declared.Refusal.{Refusal}
 use Rattle.answer.specs.Refusal.{because}
 use Rattle.column.specs.declared.Position.{Position}
-use Rattle.reader.specs.declared.Answer.{Answer}
-use Rattle.reader.specs.declared.Answer.the-variants.{Value, End, Refused}
-use Rattle.reader.specs.Next.{nextOf, answerWith}
-use Rattle.reader.specs.Run.{follow, runFrom}
-use Rattle.reader.proofs.Calls.{said-refused, next-many}
+use Rattle.step.specs.declared.Answer.{Answer}
+use Rattle.step.specs.declared.Answer.the-variants.{Value, End, Refused}
+use Rattle.step.specs.Step.{stepOf, answerWith}
+use Rattle.step.specs.Run.{follow, runFrom}
+use Rattle.step.proofs.Calls.{said-refused, next-many}
 use Rattle.measure.specs.Sum.{sumOf}
 
 -- the values that the run from a position gives, of at most so many
@@ -22,19 +22,19 @@ abbrev pub given : List ℕ → ℕ → ℕ → Position → List ℕ
 given s n most p = runFrom 64 s n most p .got
 
 -- what an answer leaves to be given
-given-more : (s : List ℕ) (n left : ℕ) (p : Position) (v : ℕ) (q : Position) → 0 < left → answerWith p (nextOf 64 s n p) ≡ Value v q → given s n left p ≡ v ∷ given s n (left - 1) q
+given-more : (s : List ℕ) (n left : ℕ) (p : Position) (v : ℕ) (q : Position) → 0 < left → answerWith p (stepOf 64 s n p) ≡ Value v q → given s n left p ≡ v ∷ given s n (left - 1) q
 unfolding runFrom
 given-more s n zero p v q h e = absurd (omega arith)
 given-more s n (suc k) p v q h e =
     let l : k ≡ suc k - 1 = omega arith in
     ap (λ (a : Answer). follow a (runFrom 64 s n k) .got) e ∙ ap (λ (j : ℕ). v ∷ given s n j q) l
 
-given-end : (s : List ℕ) (n left : ℕ) (p q : Position) → answerWith p (nextOf 64 s n p) ≡ End q → given s n left p ≡ []
+given-end : (s : List ℕ) (n left : ℕ) (p q : Position) → answerWith p (stepOf 64 s n p) ≡ End q → given s n left p ≡ []
 unfolding runFrom
 given-end s n zero p q e = refl
 given-end s n (suc k) p q e = ap (λ (a : Answer). follow a (runFrom 64 s n k) .got) e
 
-given-refused : (s : List ℕ) (n left : ℕ) (p : Position) (w : Refusal) (q : Position) → answerWith p (nextOf 64 s n p) ≡ Refused w q → given s n left p ≡ []
+given-refused : (s : List ℕ) (n left : ℕ) (p : Position) (w : Refusal) (q : Position) → answerWith p (stepOf 64 s n p) ≡ Refused w q → given s n left p ≡ []
 unfolding runFrom
 given-refused s n zero p w q e = refl
 given-refused s n (suc k) p w q e = ap (λ (a : Answer). follow a (runFrom 64 s n k) .got) e
@@ -66,7 +66,7 @@ pub sum-none : (l : List ℕ) (sum : ℕ) → sum < 2 ^ 64 → l ≡ [] → sum 
 unfolding sumOf
 sum-none l sum h e = sym (ap (λ (x : List ℕ). (sum + sumOf x) % 2 ^ 64) e ∙ ap (λ (x : ℕ). x % 2 ^ 64) (add-zero sum) ∙ mod-eq-of-lt h)
 
-module _ (s : List ℕ) (n left : ℕ) (p : Position) (sum : ℕ) (a : Answer) (e : a ≡ answerWith p (nextOf 64 s n p)) where
+module _ (s : List ℕ) (n left : ℕ) (p : Position) (sum : ℕ) (a : Answer) (e : a ≡ answerWith p (stepOf 64 s n p)) where
   -- one value more
   pub sum-more : (v : ℕ) (q : Position) → 0 < left → a ≡ Value v q → (sum + sumOf (given s n left p)) % 2 ^ 64 ≡ ((sum + v) % 2 ^ 64 + sumOf (given s n (left - 1) q)) % 2 ^ 64
   unfolding sumOf

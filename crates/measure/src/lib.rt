@@ -1,18 +1,20 @@
 // The column's services over plain numbers and slices, so that a C program can measure them. They are no part of what is offered.
 ghost use mathlib.Core.Path.{_≡_};
 ghost use lib.ListN.{length};
+ghost use Rattle.answer.specs.Lent.{came, left};
 ghost use Rattle.answer.specs.Outcome.{filled, answered};
 ghost use Rattle.column.specs.Read.{readOf};
 ghost use Rattle.column.specs.Write.{writeOf};
 ghost use Rattle.measure.specs.Answers.{numberOf, filledCount};
-ghost use Rattle.reader.specs.Next.{position};
-ghost use Rattle.reader.specs.Run.{runFrom};
+ghost use Rattle.step.specs.Step.{position};
+ghost use Rattle.step.specs.Run.{runFrom};
 ghost use Rattle.measure.specs.Scratch.{scratchLeft};
 ghost use Rattle.measure.specs.Sum.{sumOf};
 ghost use Prim.Native.Nat.{_+_};
 use answer::Filled;
+use answer::limits::MOST_VERTICES;
 use column::Position;
-use reader::Answer;
+use step::Answer;
 
 // 0, or the refusal's number.
 fn number_of(f: Filled) -> u64
@@ -37,8 +39,8 @@ fn count_of(f: Filled) -> u64
 // Reads n values of a column: 0, or the refusal's number.
 #[no_mangle]
 pub extern "C" fn measure_read(s: &[u8], n: usize, out: &mut [u64]) -> u64
-    ensures { λ r. ⌜ (r ≡ numberOf (answered (readOf 64 (now (s .entry)) n (length (now (out .entry))))))
-        × (now (out .exit) ≡ filled (readOf 64 (now (s .entry)) n (length (now (out .entry)))) (now (out .entry))) ⌝ }
+    ensures word { λ r. ⌜ r ≡ numberOf (answered (readOf 64 (now (s .entry)) n (length (came out)))) ⌝ }
+    ensures room { λ r. ⌜ left out ≡ filled (readOf 64 (now (s .entry)) n (length (came out))) (came out) ⌝ }
 {
     number_of(column::read::read(s, n, out))
 }
@@ -46,10 +48,10 @@ pub extern "C" fn measure_read(s: &[u8], n: usize, out: &mut [u64]) -> u64
 // Decodes n values of a column straight into out: the same number. A refusal by 3 or 2 leaves out as it was.
 #[no_mangle]
 pub extern "C" fn measure_decode(s: &[u8], n: usize, out: &mut [u64]) -> u64
-    ensures { λ r. ⌜ (r ≡ numberOf (answered (readOf 64 (now (s .entry)) n (length (now (out .entry))))))
-        × (now (out .exit) ≡ scratchLeft 64 (now (s .entry)) n (now (out .entry))) ⌝ }
+    ensures word { λ r. ⌜ r ≡ numberOf (answered (readOf 64 (now (s .entry)) n (length (came out)))) ⌝ }
+    ensures room { λ r. ⌜ left out ≡ scratchLeft 64 (now (s .entry)) n (came out) ⌝ }
 {
-    if 2048 < n {
+    if MOST_VERTICES < n {
         return le::number::wide(answer::table::MANY);
     }
     if out.len() < n {
@@ -61,8 +63,8 @@ pub extern "C" fn measure_decode(s: &[u8], n: usize, out: &mut [u64]) -> u64
 // Writes the column of vs: its size in bytes, or 2^32 times the refusal's number.
 #[no_mangle]
 pub extern "C" fn measure_write(vs: &[u64], out: &mut [u8]) -> u64
-    ensures { λ r. ⌜ (r ≡ filledCount (answered (writeOf 64 (now (vs .entry)) (length (now (out .entry))))))
-        × (now (out .exit) ≡ filled (writeOf 64 (now (vs .entry)) (length (now (out .entry)))) (now (out .entry))) ⌝ }
+    ensures word { λ r. ⌜ r ≡ filledCount (answered (writeOf 64 (now (vs .entry)) (length (came out)))) ⌝ }
+    ensures room { λ r. ⌜ left out ≡ filled (writeOf 64 (now (vs .entry)) (length (came out))) (came out) ⌝ }
 {
     count_of(column::write::write(vs, out))
 }
@@ -72,7 +74,7 @@ pub extern "C" fn measure_write(vs: &[u64], out: &mut [u8]) -> u64
 pub extern "C" fn measure_steps(s: &[u8], n: usize) -> u64
     ensures { λ r. ⌜ r ≡ sumOf (runFrom 64 (now (s .entry)) n (n + 1) (position 0 0 0 0) .got) ⌝ }
 {
-    if 2048 < n {
+    if MOST_VERTICES < n {
         return 0;
     }
     let mut p = Position {
@@ -84,7 +86,7 @@ pub extern "C" fn measure_steps(s: &[u8], n: usize) -> u64
     let mut sum: u64 = 0;
     let mut left = n + 1;
     while 0 < left {
-        let a = reader::next(s, n, p);
+        let a = step::step(s, n, p);
         match a {
             Answer::Value(v, q) => {
                 sum = std::num::wrapping_add_u64(sum, v);

@@ -3,6 +3,7 @@ ghost use mathlib.Core.Path.{_≡_};
 ghost use mathlib.Core.Bool.{cond};
 ghost use Prim.Native.Nat.{_≤_};
 ghost use lib.ListN.{length};
+ghost use Rattle.answer.specs.Limits.{mostVertices};
 ghost use Rattle.width.specs.Width.{zsOf, fulls, S, widthOf};
 ghost use Rattle.width.specs.Choice.{lesserChoice};
 ghost use lib.Dec.{leb};
@@ -23,7 +24,7 @@ fn full(z: u64, m: u64) -> u64
 
 // How many steps are stored in full where m is the marker.
 fn full_steps(vs: &[u64], n: u64, m: u64) -> u64
-    requires { ⌜ (m ≡ marker n) × (length (now vs) ≤ 2048) ⌝ }
+    requires { ⌜ (m ≡ marker n) × (length (now vs) ≤ mostVertices) ⌝ }
     ensures { λ r. ⌜ r ≡ fulls n (zsOf 64 (now (vs .entry))) ⌝ }
 {
     if vs.len() == 0 {
@@ -43,7 +44,7 @@ fn full_steps(vs: &[u64], n: u64, m: u64) -> u64
 
 // S(n) of a column.
 fn size_at(vs: &[u64], n: u64) -> u64
-    requires { ⌜ (n ≤ 64) × (length (now vs) ≤ 2048) ⌝ }
+    requires { ⌜ (n ≤ 64) × (length (now vs) ≤ mostVertices) ⌝ }
     ensures { λ r. ⌜ r ≡ S 64 (zsOf 64 (now (vs .entry))) n ⌝ }
 {
     let k = vs.len();
@@ -66,7 +67,7 @@ fn lesser(c: Choice, n: u64, size: u64) -> Choice
 
 // The width of least size, the smallest on a tie.
 pub fn choose(vs: &[u64]) -> Choice
-    requires { ⌜ length (now vs) ≤ 2048 ⌝ }
+    requires { ⌜ length (now vs) ≤ mostVertices ⌝ }
     ensures { λ r. ⌜ (r .width ≡ widthOf 64 (now (vs .entry))) × (r .size ≡ S 64 (zsOf 64 (now (vs .entry))) (r .width)) ⌝ }
 {
     let mut best = Choice {

@@ -4,7 +4,7 @@ use mathlib.Core.Path.{_≡_, sym, ap, _∙_}
 use Prim.Native.Nat.{ℕ, _+_, _-_, _%_, _^_, _≤_, _<_}
 use native.Mathlib.Omega.{arith}
 use borrow.Author.Needs.{needs}
-use Rattle.reader.specs.Next.{position}
+use Rattle.step.specs.Step.{position}
 use Rattle.measure.specs.Sum.{sumOf}
 use Rattle.measure.proofs.Stepping.{given, given-none, given-many, sum-zero, sum-start, sum-none, sum-more, sum-end, sum-refused}
 use Rattle.measure.proofs.measure_steps.Statement.{statement}
@@ -25,8 +25,8 @@ add-left c = omega arith
 loop-holds : tie.Need-loop-holds Inv-loop μ-loop
 loop-holds c = let a = c .before .before .args in (omega arith, omega arith, sum-start (given (a .s .now) (a .n) (a .n + 1) (position 0 0 0 0)))
 
-next-requires : tie.Need-next-requires Inv-loop μ-loop
-next-requires c κs = search needs
+step-requires : tie.Need-step-requires Inv-loop μ-loop
+step-requires c κs = search needs
 
 enum-known-a : tie.Need-enum-known-a Inv-loop μ-loop
 enum-known-a c = search needs
@@ -41,7 +41,7 @@ returns-2 : tie.Need-returns-2 Inv-loop μ-loop
 returns-2 c =
     let st = c .before .before .before .before .before .before .before in
     let l = c .before .before .before .before .loop in
-    sum-end (st .args .s .now) (st .args .n) (l .left) (l .p) (l .sum) (c .before .before .next .result) (c .before .before .next .ensures) _ (omega arith) (c .enum-told .given .1) ∙ sym (l .inv .2)
+    sum-end (st .args .s .now) (st .args .n) (l .left) (l .p) (l .sum) (c .before .before .step .result) (c .before .before .step .ensures) _ (omega arith) (c .enum-told .given .1) ∙ sym (l .inv .2)
 
 enum-told-2 : tie.Need-enum-told-2 Inv-loop μ-loop
 enum-told-2 c = search needs
@@ -50,7 +50,7 @@ returns-3 : tie.Need-returns-3 Inv-loop μ-loop
 returns-3 c =
     let st = c .before .before .before .before .before .before .before in
     let l = c .before .before .before .before .loop in
-    sum-refused (st .args .s .now) (st .args .n) (l .left) (l .p) (l .sum) (c .before .before .next .result) (c .before .before .next .ensures) _ _ (omega arith) (c .enum-told2 .given .1) ∙ sym (l .inv .2)
+    sum-refused (st .args .s .now) (st .args .n) (l .left) (l .p) (l .sum) (c .before .before .step .result) (c .before .before .step .ensures) _ _ (omega arith) (c .enum-told2 .given .1) ∙ sym (l .inv .2)
 
 sub-left : tie.Need-sub-left Inv-loop μ-loop
 sub-left c = omega arith
@@ -63,7 +63,7 @@ loop-again c =
     let loop-test = c .before .before .before .before .before .loop-test in
     let st = c .before .before .before .before .before .before .before .before .before in
     let l = c .before .before .before .before .before .before .loop in
-    let n = c .before .before .before .before .next in
+    let n = c .before .before .before .before .step in
     let v = c .before .before .a .given in (
       omega arith,
       omega (arith, c .wrapping-add-u64 .ensures),
@@ -86,7 +86,7 @@ measure-steps-spec =
     returns
     add-left
     loop-holds
-    next-requires
+    step-requires
     enum-known-a
     wrapping-add-u64-requires
     enum-told

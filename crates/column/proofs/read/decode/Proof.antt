@@ -63,10 +63,10 @@ returns-5 c =
     let if4 = c .before .before .before .before .before .before .if4 in
     let fill = c .before .before .before .before .fill in
     let a = c .before .before .before .before .before .before .before .before .before .before .before .before .before .args in
-    rw (c .refused4 .ensures) (decodes-bits 64 (a .s .now) (a .n) (a .out .now) (if1 .left) (if3 .left) (omega (arith, wide .ensures, if4 .left)) (fill .result) (fill .last .1 .1 .1 .0) (fill .ensures .0) (fill .ensures .1) (c .before .if5 .taken))
+    rw (c .refused4 .ensures) (decodes-bits 64 (a .s .now) (a .n) (a .out .now) (if1 .left) (if3 .left) (omega (arith, wide .ensures, if4 .left)) (fill .result) (fill .last .1 .1 .1 .0) (fill .ensures .0) (fill .ensures .1 .0) (c .before .if5 .taken))
 
-rest-requires : tie.Need-rest-requires
-rest-requires c κs = search needs
+window-in-last-byte-requires : tie.Need-window-in-last-byte-requires
+window-in-last-byte-requires c κs = search needs
 
 refused-requires-5 : tie.Need-refused-requires-5
 refused-requires-5 c κs = search needs
@@ -83,7 +83,7 @@ returns-6 c =
     let if4 = c .before .before .before .before .before .before .before .before .if4 in
     let fill = c .before .before .before .before .before .before .fill in
     let a = c .before .before .before .before .before .before .before .before .before .before .before .before .before .before .before .args in
-    rw (c .refused5 .ensures) (decodes-fill 64 (a .s .now) (a .n) (a .out .now) (if1 .left) (if3 .left) (omega (arith, wide .ensures, if4 .left)) (fill .result) (fill .last .1 .1 .1 .0) (fill .ensures .0) (fill .ensures .1) (λ i. shared-slice-known .given i .fits) (c .before .before .before .if5 .left) (λ z. c .before .if6 .taken (c .before .before .rest .ensures ∙ z)))
+    rw (c .refused5 .ensures) (decodes-fill 64 (a .s .now) (a .n) (a .out .now) (if1 .left) (if3 .left) (omega (arith, wide .ensures, if4 .left)) (fill .result) (fill .last .1 .1 .1 .0) (fill .ensures .0) (fill .ensures .1 .0) (λ i. shared-slice-known .given i .fits) (c .before .before .before .if5 .left) (λ z. c .before .if6 .taken (c .before .before .window-in-last-byte .ensures ∙ z)))
 
 same-length-3 : tie.Need-same-length-3
 same-length-3 c = search needs
@@ -97,7 +97,7 @@ returns-7 c =
     let if4 = c .before .before .before .before .before .before .before .if4 in
     let fill = c .before .before .before .before .before .fill in
     let a = c .before .before .before .before .before .before .before .before .before .before .before .before .before .before .args in
-    decodes-good 64 (a .s .now) (a .n) (a .out .now) (if1 .left) (if3 .left) (omega (arith, wide .ensures, if4 .left)) (fill .result) (fill .last .1 .1 .1 .0) (fill .ensures .0) (fill .ensures .1) (λ i. shared-slice-known .given i .fits) (c .before .before .if5 .left) (sym (c .before .rest .ensures) ∙ c .if6 .left)
+    decodes-good 64 (a .s .now) (a .n) (a .out .now) (if1 .left) (if3 .left) (omega (arith, wide .ensures, if4 .left)) (fill .result) (fill .last .1 .1 .1 .0) (fill .ensures .0) (fill .ensures .1 .0) (λ i. shared-slice-known .given i .fits) (c .before .before .if5 .left) (sym (c .before .window-in-last-byte .ensures) ∙ c .if6 .left)
 
 pub decode-spec : {M : Type 1} → statement M
 decode-spec =
@@ -117,7 +117,7 @@ decode-spec =
     refused-requires-4
     same-length
     returns-5
-    rest-requires
+    window-in-last-byte-requires
     refused-requires-5
     same-length-2
     returns-6

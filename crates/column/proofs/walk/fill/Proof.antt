@@ -18,18 +18,25 @@ slice-write-out : tie.Need-slice-write-out
 slice-write-out c = search needs
 
 fill-inside-requires : tie.Need-fill-inside-requires
-fill-inside-requires c κs = search needs
+fill-inside-requires c κs =
+    let st = c .before .before .before .before .before in
+    let z = length-set (st .args .out .now) 0 (c .before .window .result) in (
+      record { wide = st .pre .1; marks = c .before .before .marker .ensures; given = omega (arith, st .pre .2); few = st .pre .3; room = omega (arith, st .pre .4, z) },
+      omega arith,
+    )
 
 fill-last-requires : tie.Need-fill-last-requires
 fill-last-requires c κs =
     let st = c .before .before .before .before .before .before .before .before .before in
     let i = c .before .before .before .fill-inside in
     let z = length-set (st .args .out .now) 0 (c .before .before .before .before .before .window .result) in (
-      omega (arith, i .ensures .width, st .pre .1),
-      c .before .before .before .before .before .before .marker .ensures ∙ ap marker (sym (i .ensures .width)),
-      i .ensures .most,
-      st .pre .3,
-      omega (arith, st .pre .4, i .ensures .same, z),
+      record {
+        wide = omega (arith, i .ensures .width, st .pre .1);
+        marks = c .before .before .before .before .before .before .marker .ensures ∙ ap marker (sym (i .ensures .width));
+        given = i .ensures .most;
+        few = st .pre .3;
+        room = omega (arith, st .pre .4, i .ensures .same, z);
+      },
       omega (arith, i .ensures .bound, st .pre .3),
     )
 
@@ -38,11 +45,13 @@ fill-rest-requires c κs =
     let st = c .before .before .before .before .before .before .before .before .before .before .before .before .before in
     let went = went-on (c .before .before .before .before .before .before .before .fill-inside .ensures) (c .before .before .before .fill-last .ensures) in
     let z = length-set (st .args .out .now) 0 (c .before .before .before .before .before .before .before .before .before .window .result) in (
-      omega (arith, went .width, st .pre .1),
-      c .before .before .before .before .before .before .before .before .before .before .marker .ensures ∙ ap marker (sym (went .width)),
-      went .most,
-      st .pre .3,
-      omega (arith, st .pre .4, went .same, z),
+      record {
+        wide = omega (arith, went .width, st .pre .1);
+        marks = c .before .before .before .before .before .before .before .before .before .before .marker .ensures ∙ ap marker (sym (went .width));
+        given = went .most;
+        few = st .pre .3;
+        room = omega (arith, st .pre .4, went .same, z);
+      },
       omega (arith, went .bound, st .pre .3),
     )
 
@@ -61,7 +70,7 @@ returns c =
     let went = went-on (c .before .before .before .before .before .before .before .before .before .before .fill-inside .ensures) (k .ensures) in
     let f = filled-all 64 (st .args .s .now) (st .args .out .now) (k .last .1 .1 .1 .1 .0) (r .last .1 .1 .1 .1 .0) (st .args .n) (st .args .w) (window .result) (k .result) (r .result)
     (st .pre .0) (window .ensures) (st .pre .2) (st .pre .4) went (r .ensures .0) (r .ensures .1) in
-    (f .0, f .1, omega (arith, went .bound, r .ensures .0 .bound, r .ensures .1, st .pre .3))
+    (f .0, (f .1, omega (arith, went .bound, r .ensures .0 .bound, r .ensures .1, st .pre .3)))
 
 pub fill-spec : {M : Type 1} → statement M
 fill-spec =

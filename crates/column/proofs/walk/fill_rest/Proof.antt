@@ -16,13 +16,13 @@ abbrev μ-loop : tie.MeasureT-loop
 μ-loop s n m out₀ w at₀ last₀ i₀ out at last i = n - i
 
 loop-holds : tie.Need-loop-holds Inv-loop μ-loop
-loop-holds c = went-none (c .before .before .pre .2)
+loop-holds c = went-none (c .before .before .pre .0 .given)
 
 entry-at-requires : tie.Need-entry-at-requires Inv-loop μ-loop
 entry-at-requires c κs =
     let st = c .before .before .before .before in
     let l = c .before .loop in
-    (st .pre .0, st .pre .1, omega (arith, l .inv .bound, size-le 64 (number (st .args .s .now)) (st .args .from .width) (l .at) (st .pre .0)))
+    (st .pre .0 .wide, st .pre .0 .marks, omega (arith, l .inv .bound, size-le 64 (number (st .args .s .now)) (st .args .from .width) (l .at) (st .pre .0 .wide)))
 
 mul-out : tie.Need-mul-out Inv-loop μ-loop
 mul-out c = omega arith
@@ -41,7 +41,7 @@ loop-again c =
     let st = c .before .before .before .before .before in
     let l = c .before .before .loop in
     went-more (l .at) (l .i) (st .args .from .width) (l .last) (l .out) (l .inv) (c .entry-at .result .value) (c .entry-at .result .next)
-    (st .pre .0) (c .before .loop-test .taken) (st .pre .4) (c .entry-at .ensures)
+    (st .pre .0 .wide) (c .before .loop-test .taken) (st .pre .0 .room) (c .entry-at .ensures)
 
 same-length : tie.Need-same-length Inv-loop μ-loop
 same-length c = c .before .loop .inv .same

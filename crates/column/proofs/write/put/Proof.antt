@@ -5,7 +5,6 @@ use native.Mathlib.Omega.{arith}
 use lib.ListN.{length, getD}
 use lib.Pow.{pow-pos}
 use Rattle.le.proofs.Puts.{length-put}
-use Rattle.entry.proofs.Entries.{all-below}
 use Rattle.column.proofs.Writing.{put-none, part-size, put-all}
 use borrow.Author.Needs.{needs}
 use Rattle.column.proofs.write.put.Statement.{statement}
@@ -40,10 +39,7 @@ put-entries-requires c κs =
     let st = c .before .before .before .before .before .before .before .before .before .before .before .before .before .before in
     let some : 0 < length (st .args .vs .now) = omega (arith, c .before .before .before .before .before .before .before .before .before .before .before .if1 .left) in
     let size = part-size 64 (st .args .n) (st .args .vs .now) (st .args .part .now) some (st .pre .2) in (
-      st .pre .0,
-      c .marker .ensures,
-      some,
-      st .pre .1,
+      (st .pre .0, c .marker .ensures, some, st .pre .1),
       omega (
         arith,
         size,
@@ -78,7 +74,7 @@ returns-2 c =
     let st = c .before .before .before .before .before .before .before .before .before .before .before .before .before .before .before .before .before .before .before .before .before in
     let some : 0 < length (st .args .vs .now) = omega (arith, if1 .left) in
     put-all 64 (st .args .n) (st .args .vs .now) (st .args .part .now) some (st .pre .2) (put-field .last .0) (put-field2 .last .0) (put-entries .last .0) (c .before .before .put-field3 .last .0) (put-entries .result)
-    (st .pre .0) (omega arith) (λ i. slice-known .given i .fits) (all-below 64 (st .args .vs .now) (λ i. shared-slice-known .given i .fits))
+    (st .pre .0) (omega arith) (λ i. slice-known .given i .fits) (λ i. shared-slice-known .given i .fits)
     (put-field .ensures) (put-field2 .ensures) (put-entries .ensures) (c .before .before .put-field3 .ensures)
 
 pub put-spec : {M : Type 1} → statement M

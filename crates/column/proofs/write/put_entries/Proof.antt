@@ -19,7 +19,7 @@ shared-slice-read-a c = omega arith
 loop-holds : tie.Need-loop-holds Inv-loop μ-loop
 loop-holds c =
     let st = c .before .before .before in
-    putting-none 64 (st .args .n) (st .args .vs .now) (st .args .part .now) (st .pre .2)
+    putting-none 64 (st .args .n) (st .args .vs .now) (st .args .part .now) (st .pre .0 .2)
 
 mul-v : tie.Need-mul-v Inv-loop μ-loop
 mul-v c = omega arith
@@ -31,7 +31,7 @@ put-entry-requires : tie.Need-put-entry-requires Inv-loop μ-loop
 put-entry-requires c κs =
     let st = c .before .before .before .before .before .before .before in
     let p = c .before .before .before .loop .inv in
-    (st .pre .0, st .pre .1, putting-room p (c .before .before .loop-test .taken) (st .pre .4), omega (arith, putting-small p (st .pre .0), st .pre .3))
+    (st .pre .0 .0, st .pre .0 .1, putting-room p (c .before .before .loop-test .taken) (st .pre .1), omega (arith, putting-small p (st .pre .0 .0), st .pre .0 .3))
 
 add-i : tie.Need-add-i Inv-loop μ-loop
 add-i c = omega arith

@@ -22,7 +22,7 @@ returns c =
     let x′ = c .before .float-of3 .ensures in
     let y′ = c .float-of4 .ensures in (
       λ i. record { «least_x» = x .0 i; «least_y» = y .0 i; «greatest_x» = x′ .0 i; «greatest_y» = y′ .0 i },
-      λ i. record { least-x = x .1 i; least-y = y .1 i; greatest-x = x′ .1 i; greatest-y = y′ .1 i },
+      λ i. record { «least_x» = x .1 i; «least_y» = y .1 i; «greatest_x» = x′ .1 i; «greatest_y» = y′ .1 i },
     )
 
 pub box-with-spec : {M : Type 1} → statement M

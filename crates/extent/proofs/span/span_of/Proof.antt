@@ -4,7 +4,7 @@ use mathlib.Core.Path.{refl, _∙_}
 use Prim.Native.Nat.{_-_, _≤_, _<_}
 use native.Mathlib.Omega.{arith}
 use lib.ListN.{length}
-use Rattle.extent.specs.Span.{lower, higher, higherTurned, bySign}
+use Rattle.extent.specs.Span.{lower, higher, higherFlipped, bySign}
 use Rattle.extent.proofs.Carrying.{Carries, carries-more, carries-done}
 use Rattle.extent.proofs.Spanned.{span-made}
 use borrow.Author.Needs.{needs}
@@ -12,7 +12,7 @@ use Rattle.extent.proofs.span.span_of.Statement.{statement}
 use Rattle.extent.proofs.span.span_of.Tie as tie
 
 abbrev Inv-loop : tie.InvT-loop
-Inv-loop vs low₀ high₀ up₀ i₀ low high up i = (i ≤ length vs) × Carries lower vs i low × Carries higher vs i high × Carries higherTurned vs i up
+Inv-loop vs low₀ high₀ up₀ i₀ low high up i = (i ≤ length vs) × Carries lower vs i low × Carries higher vs i high × Carries higherFlipped vs i up
 
 abbrev μ-loop : tie.MeasureT-loop
 μ-loop vs low₀ high₀ up₀ i₀ low high up i = length vs - i
@@ -41,8 +41,8 @@ lower-requires c κs = search needs
 higher-requires : tie.Need-higher-requires Inv-loop μ-loop
 higher-requires c κs = search needs
 
-higher-turned-requires : tie.Need-higher-turned-requires Inv-loop μ-loop
-higher-turned-requires c κs = search needs
+higher-flipped-requires : tie.Need-higher-flipped-requires Inv-loop μ-loop
+higher-flipped-requires c κs = search needs
 
 add-i : tie.Need-add-i Inv-loop μ-loop
 add-i c = omega arith
@@ -58,7 +58,7 @@ loop-again c =
       omega arith,
       carries-more lower vs (l .i) (l .low) _ h (c .before .before .lower .ensures) (l .inv .1),
       carries-more higher vs (l .i) (l .high) _ h (c .before .higher .ensures) (l .inv .2),
-      carries-more higherTurned vs (l .i) (l .up) _ h (c .higher-turned .ensures) (l .inv .3),
+      carries-more higherFlipped vs (l .i) (l .up) _ h (c .higher-flipped .ensures) (l .inv .3),
     )
 
 by-sign-requires : tie.Need-by-sign-requires Inv-loop μ-loop
@@ -75,8 +75,8 @@ returns c =
     let h : length vs ≤ l .i = omega arith in
     let low = carries-done lower vs (l .i) (l .low) h (l .inv .1) in
     let high = carries-done higher vs (l .i) (l .high) h (l .inv .2) in
-    let up = carries-done higherTurned vs (l .i) (l .up) h (l .inv .3) in
-    span-made vs _ (s .pre) (λ i j. c .before .before .before .before .before .before .before .shared-slice-known .given i .fits)
+    let up = carries-done higherFlipped vs (l .i) (l .up) h (l .inv .3) in
+    span-made vs _ (s .pre) (λ i. c .before .before .before .before .before .before .before .shared-slice-known .given i .fits)
     (λ i. record {
       least = (c .before .by-sign .ensures ∙ (λ j. bySign (high j) (low j) (high j))) i;
       greatest = (c .by-sign2 .ensures ∙ (λ j. bySign (low j) (up j) (low j))) i;
@@ -96,7 +96,7 @@ span-of-spec =
     shared-slice-read-v
     lower-requires
     higher-requires
-    higher-turned-requires
+    higher-flipped-requires
     add-i
     loop-less
     loop-again

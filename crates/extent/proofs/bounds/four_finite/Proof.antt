@@ -1,21 +1,21 @@
--- `extent::boxes::four_finite` makes the four tests, one after the other. Assumes nothing.
+-- `extent::bounds::four_finite` makes the four tests, one after the other. Assumes nothing.
 use mathlib.Core.Path.{_≡_, sym, _∙_}
 use mathlib.Core.Bool.{true}
 use borrow.Author.Needs.{needs}
 use Rattle.extent.specs.Rank.{finite}
 use Rattle.extent.specs.Boxes.{fourFinite}
 use Rattle.extent.proofs.Tests.{passed-three, failed-third, failed-second, failed-first}
-use Rattle.extent.proofs.boxes.four_finite.Statement.{statement}
-use Rattle.extent.proofs.boxes.four_finite.Tie as tie
+use Rattle.extent.proofs.bounds.four_finite.Statement.{statement}
+use Rattle.extent.proofs.bounds.four_finite.Tie as tie
 
 -- the first three, where they passed
-f1 : (c : tie.Then1) → finite (c .before .before .args .least-x) ≡ true
+f1 : (c : tie.Then1) → finite (c .before .before .args .p .«least_x») ≡ true
 f1 c = sym (c .before .finite .ensures) ∙ c .if1 .taken
 
-f2 : (c : tie.Then2) → finite (c .before .before .before .before .args .least-y) ≡ true
+f2 : (c : tie.Then2) → finite (c .before .before .before .before .args .p .«least_y») ≡ true
 f2 c = sym (c .before .finite2 .ensures) ∙ c .if2 .taken
 
-f3 : (c : tie.Then3) → finite (c .before .before .before .before .before .before .args .greatest-x) ≡ true
+f3 : (c : tie.Then3) → finite (c .before .before .before .before .before .before .args .p .«greatest_x») ≡ true
 f3 c = sym (c .before .finite3 .ensures) ∙ c .if3 .taken
 
 finite-requires : tie.Need-finite-requires

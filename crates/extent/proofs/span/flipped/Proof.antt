@@ -1,20 +1,20 @@
 -- `extent::span::turned` turns the sign bit over. Assumes nothing.
 use borrow.Author.Needs.{needs}
 use borrow.Author.Tests.{lt-ltb, le-ltb}
-use Rattle.extent.specs.Span.{turned}
-use Rattle.extent.proofs.span.turned.Statement.{statement}
-use Rattle.extent.proofs.span.turned.Tie as tie
+use Rattle.extent.specs.Span.{flipped}
+use Rattle.extent.proofs.span.flipped.Statement.{statement}
+use Rattle.extent.proofs.span.flipped.Tie as tie
 
 add-result : tie.Need-add-result
 add-result c = search needs
 
 returns : tie.Need-returns
-unfolding turned
+unfolding flipped
 returns c = simp (lt-ltb _ _ (c .if1 .taken))
 
 returns-2 : tie.Need-returns-2
-unfolding turned
+unfolding flipped
 returns-2 c = simp (le-ltb _ _ (c .if1 .left))
 
-pub turned-spec : {M : Type 1} → statement M
-turned-spec = tie.close (tie.spec add-result returns returns-2)
+pub flipped-spec : {M : Type 1} → statement M
+flipped-spec = tie.close (tie.spec add-result returns returns-2)

@@ -1,10 +1,10 @@
--- `extent::boxes::good_patterns` tests each axis. Assumes nothing.
+-- `extent::bounds::good_patterns` tests each axis. Assumes nothing.
 use mathlib.Core.Path.{sym, _∙_}
 use borrow.Author.Needs.{needs}
 use Rattle.answer.proofs.Both.{first-fails, then}
 use Rattle.extent.proofs.Axes.{good-axes}
-use Rattle.extent.proofs.boxes.good_patterns.Statement.{statement}
-use Rattle.extent.proofs.boxes.good_patterns.Tie as tie
+use Rattle.extent.proofs.bounds.good_patterns.Statement.{statement}
+use Rattle.extent.proofs.bounds.good_patterns.Tie as tie
 
 good-axis-requires : tie.Need-good-axis-requires
 good-axis-requires c κs = search needs
