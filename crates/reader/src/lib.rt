@@ -1,145 +1,64 @@
-// The column read one value a call. The position goes in by value and comes back with each answer; only a value moves it.
+// The column reader as a thing that holds the column's bytes and gives one value a call. It only holds: each answer is that of the step on the
+// bytes, `step::step`. The struct is Copy; the position is handed back with each answer, and `moved` takes a reader there.
 ghost use mathlib.Core.Path.{_≡_};
-ghost use Prim.Native.Nat.{_+_, _/_, _^_, _≤_};
-ghost use lib.Dec.{leb};
-ghost use Rattle.answer.specs.Refusal.{because};
-ghost use Rattle.answer.specs.Outcome.{ok};
-ghost use Rattle.le.specs.Number.{number};
-ghost use Rattle.entry.specs.Step.{marker};
-ghost use Rattle.entry.specs.Entry.{sizeAt};
-ghost use Rattle.column.specs.Read.{closed};
-ghost use Rattle.reader.specs.Next.{end, firstCall, laterCall, nextOf, answerWith};
-use answer::Refusal;
+ghost use Rattle.step.specs.Step.{stepOf, answerWith};
+ghost use Rattle.reader.specs.Reader.{newReader, movedTo, readerAnswer};
 use column::Position;
+use step::Answer;
 
-// A value with the next position; or the end, or a refusal, with the position as it came.
-pub enum Answer {
-    Value(u64, Position),
-    End(Position),
-    Refused(Refusal, Position),
+// The column's bytes, how many values they are to hold, and a position. The order is that of the step's parameters.
+pub struct Reader<'a> {
+    pub src: &'a [u8],
+    pub n: usize,
+    pub pos: Position,
 }
 
-// A refusal by its number.
-fn refused(number: u8, p: Position) -> Answer
-    ensures { λ r. ⌜ r ≡ Answer.Refused (because number) p ⌝ }
-{
-    Answer::Refused(Refusal::because(number), p)
-}
+impl<'a> Reader<'a> {
+    // A reader at a fresh position.
+    pub fn new(src: &'a [u8], n: usize) -> Reader<'a>
+        ensures { λ r. ⌜ r ≡ newReader (src .entry) n ⌝ }
+    {
+        Reader {
+            src,
+            n,
+            pos: Position {
+                at: 0,
+                given: 0,
+                width: 0,
+                last: 0,
+            },
+        }
+    }
 
-// The whole bytes that bits up to a place take.
-fn whole_bytes(at: usize) -> usize
-    ensures { λ r. ⌜ r ≡ (at + 7) / 8 ⌝ }
-{
-    at / 8 + (at % 8 + 7) / 8
-}
+    // The position that a reader is at.
+    pub fn position(self) -> Position
+        ensures { λ p. ⌜ p ≡ self .entry .pos ⌝ }
+    {
+        self.pos
+    }
 
-// The rules of the end, where the entries end at a place.
-fn end_at(s: &[u8], at: usize, p: Position) -> Answer
-    ensures { λ r. ⌜ r ≡ answerWith p (closed (now (s .entry)) at (ok end)) ⌝ }
-{
-    if whole_bytes(at) != s.len() {
-        return refused(answer::table::BITS, p);
+    // The same reader at another position, as one that an answer handed back.
+    pub fn moved(self, pos: Position) -> Reader<'a>
+        ensures { λ r. ⌜ r ≡ movedTo (self .entry) pos ⌝ }
+    {
+        Reader {
+            src: self.src,
+            n: self.n,
+            pos,
+        }
     }
-    if le::bits::window(s, at) != 0 {
-        return refused(answer::table::FILL, p);
-    }
-    Answer::End(p)
-}
 
-// With none given: from the first bit.
-fn first(s: &[u8], n: usize, p: Position) -> Answer
-    ensures { λ r. ⌜ r ≡ answerWith p (firstCall 64 (now (s .entry)) n) ⌝ }
-{
-    if n == 0 {
-        return end_at(s, 0, p);
-    }
-    let len = s.len();
-    if len == 0 {
-        return refused(answer::table::BITS, p);
-    }
-    let w = le::number::wide(s[0]);
-    if 64 < w {
-        return refused(answer::table::WIDTH, p);
-    }
-    if len < 9 {
-        return refused(answer::table::BITS, p);
-    }
-    let v = le::bits::window(s, 8);
-    Answer::Value(
-        v,
-        Position {
-            at: 72,
-            given: 1,
-            width: w,
-            last: v,
-        },
-    )
-}
-
-// Whether the entry at a place ends past what 64 bits can hold; m is the marker of width w.
-fn runs_over(s: &[u8], at: usize, w: u64, m: u64) -> bool
-    requires { ⌜ (w ≤ 64) × (m ≡ marker w) ⌝ }
-    ensures { λ r. ⌜ r ≡ leb (2 ^ 64) (at + sizeAt 64 (number (now (s .entry))) w at) ⌝ }
-{
-    if at < 0xFFFF_FFFF_FFFF_FF00 {
-        return false;
-    }
-    let left = u64::MAX - (at as u64);
-    if le::bits::field(s, at, w) < m {
-        left < w
-    } else {
-        left < w + 64
+    // One value, or the end, or a refusal; with it the position to go on from.
+    pub fn next(self) -> Answer
+        ensures { λ a. ⌜ a ≡ readerAnswer (self .entry) ⌝ }
+    {
+        step::step(self.src, self.n, self.pos)
     }
 }
 
-// With some given: the entry at the position's place, or the rules of the end.
-fn later(s: &[u8], n: usize, p: Position) -> Answer
-    requires { ⌜ n ≤ 2048 ⌝ }
-    ensures { λ r. ⌜ r ≡ answerWith p (laterCall 64 (now (s .entry)) n p) ⌝ }
+// What a reader of the column s of n values answers at a position: for callers that hold no reader.
+pub fn answer_at(s: &[u8], n: usize, p: Position) -> Answer
+    ensures { λ r. ⌜ r ≡ answerWith p (stepOf 64 (now (s .entry)) n p) ⌝ }
 {
-    let at = p.at;
-    let w = p.width;
-    if 64 < w {
-        return refused(answer::table::WIDTH, p);
-    }
-    let len = s.len();
-    if len < whole_bytes(at) {
-        return refused(answer::table::BITS, p);
-    }
-    if n <= p.given {
-        return end_at(s, at, p);
-    }
-    let m = entry::marker(w);
-    if runs_over(s, at, w, m) {
-        return refused(answer::table::BITS, p);
-    }
-    let e = entry::entry_at(s, at, w, m, p.last);
-    let next = e.next;
-    if len < whole_bytes(next) {
-        return refused(answer::table::BITS, p);
-    }
-    Answer::Value(
-        e.value,
-        Position {
-            at: next,
-            given: p.given + 1,
-            width: w,
-            last: e.value,
-        },
-    )
-}
-
-// One value of the column s of n values, or the end, or a refusal. Any position is taken.
-pub fn next(s: &[u8], n: usize, p: Position) -> Answer
-    ensures { λ r. ⌜ r ≡ answerWith p (nextOf 64 (now (s .entry)) n p) ⌝ }
-{
-    if 2048 < n {
-        return refused(answer::table::MANY, p);
-    }
-    let given = p.given;
-    if given == 0 {
-        first(s, n, p)
-    } else {
-        later(s, n, p)
-    }
+    Reader::new(s, n).moved(p).next()
 }
