@@ -16,9 +16,9 @@ use Rattle.types.proofs.Passed.{hold-agree, hold-total, agree-counts, parts-at-
 use Rattle.shape.specs.Outline.{Shape, outlinesOf, registered}
 use Rattle.frame.specs.declared.head.Head.{Head}
 use Rattle.frame.specs.declared.cursor.PageAt.{PageAt}
-use Rattle.frame.specs.Step.{page, stepOf}
+use Rattle.frame.specs.Next.{page, nextOf}
 use Rattle.frame.specs.Frame.{pageOf}
-use Rattle.frame.proofs.Steps.{page-inj}
+use Rattle.frame.proofs.Ways.{page-inj}
 use Rattle.page.specs.Contents.{registersOf, typesOf, countsOf, lensOf, contentsOf}
 use Rattle.page.specs.Loaded.{Loaded}
 use Rattle.answer.proofs.Orders.{on-refused, on-value}
@@ -73,7 +73,7 @@ pub listed-shape : (h : Head) (b xs ys : List ℕ) (i : ℕ) → partsHold (type
     ≡ ok (shapeFrom (rowOf h b i) (spanOf (countsOf h b) (lensOf h b) i) (lensOf h b) xs ys)
 unfolding rowOf registersOf
 listed-shape h b xs ys i q l =
-    let r = length-numbers 4 (h .g) b (h .layout .registers) in
+    let r = length-numbers (h .layout .each) 4 (h .g) b (h .layout .registers) in
     let c = counts-long h b in
     let t = agree-even (typesOf h b) (countsOf h b) (lensOf h b) (hold-agree (typesOf h b) (countsOf h b) (lensOf h b) (h .v) q) in
     span-shape (registersOf h b) (typesOf h b) (countsOf h b) (lensOf h b) xs ys i (omega (arith, r)) (omega (arith, t, c)) (omega (arith, c))
@@ -116,12 +116,12 @@ seat-bad t rooms w e = on-refused (shapeOf t) (inRooms rooms) w (on-refused (inP
 -- ---- the seat that the code found: its page is the one that is opened
 
 module _ (s : List ℕ) (t : SeatAt) (p : PageAt) where
-  same-page : stepOf s (t .at) ≡ ok (page (t .page)) → stepOf s (t .at) ≡ ok (page p) → t .page ≡ p
+  same-page : nextOf s (t .at) ≡ ok (page (t .page)) → nextOf s (t .at) ≡ ok (page p) → t .page ≡ p
   same-page e f = page-inj (ok-inj (sym e ∙ f))
 
-  pub index-within : stepOf s (t .at) ≡ ok (page (t .page)) → stepOf s (t .at) ≡ ok (page p) → t .index < t .page .head .g → t .index < p .head .g
+  pub index-within : nextOf s (t .at) ≡ ok (page (t .page)) → nextOf s (t .at) ≡ ok (page p) → t .index < t .page .head .g → t .index < p .head .g
   index-within e f = subst (λ (x : PageAt). t .index < x .head .g) (same-page e f)
 
-  pub seat-page : (rooms : Rooms) → stepOf s (t .at) ≡ ok (page (t .page)) → stepOf s (t .at) ≡ ok (page p)
+  pub seat-page : (rooms : Rooms) → nextOf s (t .at) ≡ ok (page (t .page)) → nextOf s (t .at) ≡ ok (page p)
       → on (shapeOf (seatAt s t)) (inRooms rooms) ≡ on (shapeOf (record { page = t .at .pages; index = t .index; held = pageOf s p })) (inRooms rooms)
   seat-page rooms e f = ap (λ (x : PageAt). on (shapeOf (record { page = t .at .pages; index = t .index; held = pageOf s x })) (inRooms rooms)) (same-page e f)

@@ -6,6 +6,7 @@ use mathlib.Core.Bool.{Bool, _&&_}
 use mathlib.Core.List.{List}
 use lib.ListN.{length}
 use lib.Dec.{leb}
+use denote.Ref.{now}
 use Rattle.answer.specs.Table as table
 use Rattle.answer.specs.Refusal.{because}
 use Rattle.answer.specs.Outcome.{Out, refused, ok, need, on, inPage, filled}
@@ -13,6 +14,7 @@ use Rattle.shape.specs.Outline.{Outline, Shape}
 use Rattle.page.specs.Contents.{contentsOf}
 use Rattle.fetch.specs.declared.fetch.Fetched.{Fetched}
 use Rattle.fetch.specs.declared.fetch.Fetched.the-variants as fetched
+use Rattle.answer.specs.Lent.{Lent}
 use Rattle.place.specs.Nth.{shapeAt}
 use Rattle.place.specs.Seek.{Seat, seatOf}
 
@@ -71,3 +73,9 @@ pub record Fetches (o : Out Shape) (lens xs ys : List ℕ) (says : Fetched) (len
   pub lens-room : lens-left ≡ filled (listOf (λ x. x .lens) o) lens
   pub xs-room : xs-left ≡ filled (listOf (λ x. x .xs) o) xs
   pub ys-room : ys-left ≡ filled (listOf (λ x. x .ys) o) ys
+
+-- the contract, by the three lent rooms: o is the outcome with so much room
+abbrev pub FetchesInto : (Rooms → Out Shape) → Fetched → Lent → Lent → Lent → Type 0
+FetchesInto o says lens xs ys =
+    Fetches (o (roomsOf (now (lens .entry)) (now (xs .entry)) (now (ys .entry))))
+    (now (lens .entry)) (now (xs .entry)) (now (ys .entry)) says (now (lens .exit)) (now (xs .exit)) (now (ys .exit))

@@ -1,4 +1,3 @@
 // The shape at a place of a file.
-mod copy;
 pub mod fetch;
 mod opened;

@@ -1,19 +1,21 @@
 // A shape of a page that is opened: the page's contents, then the room, and only then the three copies.
 ghost use mathlib.Core.Path.{_≡_};
-ghost use Prim.Native.Nat.{_≤_, _<_};
-ghost use lib.ListN.{length};
+ghost use Prim.Native.Nat.{_<_};
 ghost use Rattle.answer.specs.Outcome.{ok, on};
 ghost use Rattle.frame.specs.Ahead.{Within};
-ghost use Rattle.frame.specs.Step.{page, stepOf};
+ghost use Rattle.frame.specs.Next.{page, nextOf};
 ghost use Rattle.place.specs.Span.{shapeFrom};
-ghost use Rattle.fetch.specs.Fetch.{shapeOf, roomsOf, inRooms, Fetches};
+ghost use Rattle.fetch.specs.Fetch.{shapeOf, inRooms, FetchesInto};
+ghost use Rattle.fetch.specs.Ready.{Lies};
 ghost use Rattle.place.specs.Seek.{seatAt};
-use crate::copy::copy_lens;
-use crate::copy::copy_patterns;
 use crate::fetch::Fetched;
 use crate::fetch::Found;
 use answer::Refusal;
+use answer::limits::MOST_PAGE_SHAPES;
+use answer::limits::MOST_VERTICES;
 use answer::table::ROOM;
+use le::run::copy_u16s;
+use le::run::copy_u64s;
 use page::open::Opened;
 use page::open::open;
 use place::row::Row;
@@ -33,8 +35,8 @@ fn put_shape(
     xs: &mut [u64],
     ys: &mut [u64],
 ) -> Fetched
-    requires { ⌜ (p .part ≤ p .«part_end») × (p .«part_end» ≤ length (now «page_lens»)) × (p .vertex ≤ p .«vertex_end») × (p .«vertex_end» ≤ length (now «page_xs»)) × (length (now «page_ys») ≡ length (now «page_xs»)) ⌝ }
-    ensures { λ r′. ⌜ Fetches (inRooms (roomsOf (now (lens .entry)) (now (xs .entry)) (now (ys .entry))) (shapeFrom r p (now («page_lens» .entry)) (now («page_xs» .entry)) (now («page_ys» .entry)))) (now (lens .entry)) (now (xs .entry)) (now (ys .entry)) r′ (now (lens .exit)) (now (xs .exit)) (now (ys .exit)) ⌝ }
+    requires { ⌜ Lies p (now «page_lens») (now «page_xs») (now «page_ys») ⌝ }
+    ensures { λ f. ⌜ FetchesInto (λ k. inRooms k (shapeFrom r p (now («page_lens» .entry)) (now («page_xs» .entry)) (now («page_ys» .entry)))) f lens xs ys ⌝ }
 {
     let part = p.part;
     let part_end = p.part_end;
@@ -51,9 +53,9 @@ fn put_shape(
     if ys.len() < vertices {
         return Fetched::Refused(Refusal::because(ROOM));
     }
-    copy_lens(&page_lens[part..part_end], lens);
-    copy_patterns(&page_xs[vertex..vertex_end], xs);
-    copy_patterns(&page_ys[vertex..vertex_end], ys);
+    copy_u16s(&page_lens[part..part_end], lens);
+    copy_u64s(&page_xs[vertex..vertex_end], xs);
+    copy_u64s(&page_ys[vertex..vertex_end], ys);
     Fetched::Shape(Found {
         register: r.register,
         kind: r.kind,
@@ -70,13 +72,15 @@ pub(crate) fn opened(
     xs: &mut [u64],
     ys: &mut [u64],
 ) -> Fetched
-    requires { ⌜ Within (t .at) × (stepOf (now s) (t .at) ≡ ok (page (t .page))) × (t .index < t .page .head .g) ⌝ }
-    ensures { λ r. ⌜ Fetches (on (shapeOf (seatAt (now (s .entry)) t)) (inRooms (roomsOf (now (lens .entry)) (now (xs .entry)) (now (ys .entry))))) (now (lens .entry)) (now (xs .entry)) (now (ys .entry)) r (now (lens .exit)) (now (xs .exit)) (now (ys .exit)) ⌝ }
+    requires { ⌜ Within (t .at) ⌝ }
+    requires { ⌜ nextOf (now s) (t .at) ≡ ok (page (t .page)) ⌝ }
+    requires { ⌜ t .index < t .page .head .g ⌝ }
+    ensures { λ r. ⌜ FetchesInto (λ k. on (shapeOf (seatAt (now (s .entry)) t)) (inRooms k)) r lens xs ys ⌝ }
 {
-    let mut counts = [0u16; 256];
-    let mut page_lens = [0u16; 2048];
-    let mut page_xs = [0u64; 2048];
-    let mut page_ys = [0u64; 2048];
+    let mut counts = [0u16; MOST_PAGE_SHAPES];
+    let mut page_lens = [0u16; MOST_VERTICES];
+    let mut page_xs = [0u64; MOST_VERTICES];
+    let mut page_ys = [0u64; MOST_VERTICES];
     match open(
         s,
         t.at,

@@ -10,7 +10,7 @@ use Rattle.answer.specs.declared.Verdict.the-variants.{Holds, Refused}
 use Rattle.answer.proofs.Rules.{passed-ok, passed-refused, passed-on}
 use Rattle.frame.specs.declared.cursor.Cursor.{Cursor}
 use Rattle.frame.specs.declared.cursor.PageAt.{PageAt}
-use Rattle.frame.specs.Step.{page, end, part, stepOf}
+use Rattle.frame.specs.Next.{page, end, part, nextOf}
 use Rattle.frame.specs.Frame.{Page, pageOf, walk}
 use Rattle.frame.proofs.Found.{page-is}
 use Rattle.frame.proofs.Walks.{pages-on}
@@ -45,11 +45,11 @@ module _ (s : List ℕ) (c : Cursor) (ps : List Page) (a : Ahead s c ps) where
   rest-is = on-value (walk (1025 - c .pages) s c) _ ps (a .walked)
 
   -- at the end nothing
-  pub rest-end : stepOf s c ≡ ok end → judged Holds ≡ passed (restOf s c)
+  pub rest-end : nextOf s c ≡ ok end → judged Holds ≡ passed (restOf s c)
   unfolding pagesOf
   rest-end e = passed-ok [] (rest-is ∙ ap (pagesOf (c .pages)) (ahead-end s c ps a e))
 
-  module _ (p : PageAt) (e : stepOf s c ≡ ok (page p)) where
+  module _ (p : PageAt) (e : nextOf s c ≡ ok (page p)) where
     -- a page that is refused
     pub rest-refused : (w : Refusal) → contentsIn s (c .pages) p ≡ refused w → judged (Refused w) ≡ passed (restOf s c)
     rest-refused w r =
@@ -75,10 +75,10 @@ pub record Going (s : List ℕ) (from c : Cursor) : Type 0 where
 
 module _ (s : List ℕ) (from c : Cursor) (g : Going s from c) where
   -- the end
-  pub going-end : stepOf s c ≡ ok end → judged Holds ≡ passed (restOf s from)
+  pub going-end : nextOf s c ≡ ok end → judged Holds ≡ passed (restOf s from)
   going-end e = rest-end s c (g .ahead .0) (g .ahead .1) e ∙ sym (g .same)
 
-  module _ (p : PageAt) (e : stepOf s c ≡ ok (page p)) where
+  module _ (p : PageAt) (e : nextOf s c ≡ ok (page p)) where
     pub going-refused : (w : Refusal) → contentsIn s (c .pages) p ≡ refused w → judged (Refused w) ≡ passed (restOf s from)
     going-refused w r = rest-refused s c (g .ahead .0) (g .ahead .1) p e w r ∙ sym (g .same)
 

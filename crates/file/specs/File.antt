@@ -1,6 +1,7 @@
 -- What a file means: the shapes of its pages, in order. A shape's place is its position among them, from 0. Assumes nothing.
 use Prim.Native.Nat.{ℕ, suc, _-_}
 use mathlib.Core.List.{List, [], _∷_, _++_}
+use Rattle.answer.specs.Limits.{mostPages}
 use Rattle.answer.specs.Outcome.{Out, ok, on, inPage}
 use Rattle.frame.specs.declared.cursor.Cursor.{Cursor}
 use Rattle.frame.specs.Frame.{Page, walk, frameOf}
@@ -17,7 +18,7 @@ pagesOf k (p ∷ ps) =
 
 -- the shapes from a cursor to the end
 unfoldable pub restOf : List ℕ → Cursor → Out (List Shape)
-restOf s c = on (walk (1025 - c .pages) s c) (pagesOf (c .pages))
+restOf s c = on (walk (suc mostPages - c .pages) s c) (pagesOf (c .pages))
 
 -- a file's shapes: the frame, then each page's contents
 unfoldable pub shapesIn : List ℕ → Out (List Shape)

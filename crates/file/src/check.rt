@@ -9,6 +9,8 @@ ghost use Rattle.page.specs.Opened.{Scratch};
 ghost use Rattle.file.specs.File.{restOf, shapesIn};
 ghost use Rattle.file.specs.Check.{checkOf};
 use answer::Verdict;
+use answer::limits::MOST_PAGE_SHAPES;
+use answer::limits::MOST_VERTICES;
 use frame::cursor::Cursor;
 use frame::read::at_end;
 use frame::walk::Checked;
@@ -47,10 +49,10 @@ fn contents_hold(s: &[u8], from: Cursor) -> Verdict
     requires { ⌜ Begun (now s) from ⌝ }
     ensures { λ r. ⌜ judged r ≡ passed (shapesIn (now (s .entry))) ⌝ }
 {
-    let mut counts = [0u16; 256];
-    let mut lens = [0u16; 2048];
-    let mut xs = [0u64; 2048];
-    let mut ys = [0u64; 2048];
+    let mut counts = [0u16; MOST_PAGE_SHAPES];
+    let mut lens = [0u16; MOST_VERTICES];
+    let mut xs = [0u64; MOST_VERTICES];
+    let mut ys = [0u64; MOST_VERTICES];
     pages_hold(s, from, &mut counts, &mut lens, &mut xs, &mut ys)
 }
 

@@ -56,15 +56,15 @@ contents-contained h b ss e =
 module _ (h : Head) (b : List ℕ) where
   pub counts-long : length (countsOf h b) ≡ h .g
   unfolding countsOf
-  counts-long = length-numbers 2 (h .g) b (h .layout .counts)
+  counts-long = length-numbers 2 2 (h .g) b (h .layout .counts)
 
   pub lens-long : length (lensOf h b) ≡ h .p
   unfolding lensOf
-  lens-long = length-numbers 2 (h .p) b (h .layout .lens)
+  lens-long = length-numbers 2 2 (h .p) b (h .layout .lens)
 
   registers-long : length (registersOf h b) ≡ h .g
   unfolding registersOf
-  registers-long = length-numbers 4 (h .g) b (h .layout .registers)
+  registers-long = length-numbers (h .layout .each) 4 (h .g) b (h .layout .registers)
 
 -- shapes without their registers
 outlines-back : (rs : List ℕ) (os : List Outline) → length rs ≡ length os → map (λ (s : Shape). s .outline) (registered rs os) ≡ os

@@ -12,26 +12,26 @@ use Rattle.answer.specs.declared.Verdict.the-variants as verdict
 use Rattle.answer.proofs.Rules.{passed-ok, passed-refused}
 use Rattle.column.specs.Read.{decodeOf, Decodes}
 use Rattle.column.proofs.Decoding.{scratch-ok}
-use Rattle.page.specs.Given.{Given}
+use Rattle.page.specs.Scratched.{Scratched}
 
 module _ (P : ℕ) (s d left : List ℕ) where
   -- values
-  pub given-values : (k : ℕ) → Decodes P s (length d) d (Start k) left → Given (decodeOf P s (length d)) verdict.Holds left
+  pub given-values : (k : ℕ) → Decodes P s (length d) d (Start k) left → Scratched (decodeOf P s (length d)) verdict.Holds left
   unfolding answered
   given-values k h = go (decodeOf P s (length d)) refl (h .answer)
     where
-      go : (o : Out (List ℕ)) → decodeOf P s (length d) ≡ o → Start k ≡ answered o → Given (decodeOf P s (length d)) verdict.Holds left
+      go : (o : Out (List ℕ)) → decodeOf P s (length d) ≡ o → Start k ≡ answered o → Scratched (decodeOf P s (length d)) verdict.Holds left
       go (refused x) e q = absurd (let z : _≡_ {A = ℕ} 0 1 = cc in omega arith)
       go (ok l) e q =
           let w : left ≡ l = h .scratch ∙ scratch-ok P s (length d) d l e .1 ∙ ap (λ (t : List ℕ). l ++ t) (drop-length d) ∙ append-nil l in
           record { verdict = passed-ok l e; value = λ _. e ∙ ap ok (sym w) }
 
   -- a refusal
-  pub given-refused : (w : Refusal) → Decodes P s (length d) d (Refused w) left → Given (decodeOf P s (length d)) (verdict.Refused w) left
+  pub given-refused : (w : Refusal) → Decodes P s (length d) d (Refused w) left → Scratched (decodeOf P s (length d)) (verdict.Refused w) left
   unfolding answered
   given-refused w h = go (decodeOf P s (length d)) refl (h .answer)
     where
-      go : (o : Out (List ℕ)) → decodeOf P s (length d) ≡ o → Refused w ≡ answered o → Given (decodeOf P s (length d)) (verdict.Refused w) left
+      go : (o : Out (List ℕ)) → decodeOf P s (length d) ≡ o → Refused w ≡ answered o → Scratched (decodeOf P s (length d)) (verdict.Refused w) left
       go (refused x) e q =
           let z : w ≡ x = cc in
           record { verdict = passed-refused w (e ∙ ap refused (sym z)); value = λ r. absurd (let y : _≡_ {A = ℕ} 0 1 = cc in omega arith) }

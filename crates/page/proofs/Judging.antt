@@ -9,7 +9,7 @@ use Rattle.answer.specs.declared.Verdict.{Verdict}
 use Rattle.answer.specs.declared.Verdict.the-variants.{Holds, Refused}
 use Rattle.answer.proofs.Rules.{judged-refused}
 use Rattle.answer.proofs.Orders.{then-refused, then-holds}
-use Rattle.extent.specs.Boxes.{Bounds}
+use Rattle.extent.specs.declared.bounds.Bounds.{Bounds}
 use Rattle.shape.specs.Outline.{Outline}
 use Rattle.shape.specs.Rules.{finiteRule, boxRule, ringRules, outlineRules}
 use Rattle.shape.proofs.Ruled.{ruled-finite, ruled-rings}

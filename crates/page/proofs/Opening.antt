@@ -15,10 +15,10 @@ use Rattle.answer.proofs.Outcomes.{never, ok-inj, refused-inj, in-page-refused,
 use Rattle.answer.proofs.Rules.{refused-passed}
 use Rattle.frame.specs.declared.cursor.Cursor.{Cursor}
 use Rattle.frame.specs.declared.cursor.PageAt.{PageAt}
-use Rattle.frame.specs.Step.{page, part, stepOf}
+use Rattle.frame.specs.Next.{page, part, nextOf}
 use Rattle.frame.proofs.Counts.{Limits}
 use Rattle.frame.proofs.Heads.{head-is, head-limits}
-use Rattle.frame.proofs.Steps.{page-inj}
+use Rattle.frame.proofs.Ways.{page-inj}
 use Rattle.frame.proofs.Found.{page-is}
 use Rattle.frame.proofs.Parts.{length-part, part-in}
 use Rattle.shape.specs.Outline.{Shape}
@@ -35,14 +35,14 @@ use Rattle.page.proofs.Contained.{counts-long, lens-long}
 -- ---- the page in the file, and the start of a scratch
 
 -- what a page's head says of its counts
-pub limits-of : (s : List ℕ) (c : Cursor) (p : PageAt) → stepOf s c ≡ ok (page p) → Limits (p .head .g) (p .head .v) (p .head .p)
+pub limits-of : (s : List ℕ) (c : Cursor) (p : PageAt) → nextOf s c ≡ ok (page p) → Limits (p .head .g) (p .head .v) (p .head .p)
 limits-of s c p e = let q = page-is s c p e .headed in head-limits _ _ _ (head-is (c .edition) _ (p .head) q)
 
 pub part-of : (s : List ℕ) (body len : ℕ) → take (body + len - body) (drop body s) ≡ part s body len
 part-of s body len = let z : body + len - body ≡ len = omega arith in ap (λ (n : ℕ). take n (drop body s)) z
 
 -- its types, as they are cut from the file
-module _ (s : List ℕ) (c : Cursor) (p : PageAt) (e : stepOf s c ≡ ok (page p)) where
+module _ (s : List ℕ) (c : Cursor) (p : PageAt) (e : nextOf s c ≡ ok (page p)) where
   types-there : p .head .layout .types + p .head .g ≤ p .len
   types-there =
       let k = page-is s c p e in
@@ -88,10 +88,10 @@ loaded-first s p counts lens xs ys counts₀ lens₀ xs₀ ys₀ y =
 
 -- ---- what the call says
 
-module _ (s : List ℕ) (c : Cursor) (counts lens xs ys : List ℕ) (p : PageAt) (e : stepOf s c ≡ ok (page p)) where
+module _ (s : List ℕ) (c : Cursor) (counts lens xs ys : List ℕ) (p : PageAt) (e : nextOf s c ≡ ok (page p)) where
   -- of any page that stands there, since it is this one
   said-at : (says : Opened) → saidOpened says ≡ on (contentsIn s (c .pages) p) (λ here. ok p)
-      → (q : PageAt) → stepOf s c ≡ ok (page q) → saidOpened says ≡ on (contentsIn s (c .pages) q) (λ here. ok q)
+      → (q : PageAt) → nextOf s c ≡ ok (page q) → saidOpened says ≡ on (contentsIn s (c .pages) q) (λ here. ok q)
   said-at says r q f = subst (λ (x : PageAt). saidOpened says ≡ on (contentsIn s (c .pages) x) (λ here. ok x)) (page-inj (ok-inj (sym e ∙ f))) r
 
   -- its contents are refused
@@ -113,7 +113,7 @@ module _ (s : List ℕ) (c : Cursor) (counts lens xs ys : List ℕ) (p : PageAt)
 
 -- and back
 module _ (s : List ℕ) (c : Cursor) (says : Opened) (counts lens xs ys : List ℕ) (o : Opens s c says counts lens xs ys) where
-  pub opened-refused : (p : PageAt) → stepOf s c ≡ ok (page p) → (w : Refusal) → says ≡ Refused w → contentsIn s (c .pages) p ≡ refused w
+  pub opened-refused : (p : PageAt) → nextOf s c ≡ ok (page p) → (w : Refusal) → says ≡ Refused w → contentsIn s (c .pages) p ≡ refused w
   unfolding saidOpened on
   opened-refused p e w q = go (contentsIn s (c .pages) p) (sym (o .said p e) ∙ ap saidOpened q)
     where

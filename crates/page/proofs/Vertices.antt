@@ -14,7 +14,7 @@ use Rattle.answer.proofs.Outcomes.{ok-inj, on-ok}
 use Rattle.column.proofs.Decoding.{scratch-ok}
 use Rattle.column.specs.Read.{decodeOf}
 use Rattle.frame.specs.declared.head.Head.{Head}
-use Rattle.page.specs.Given.{Given}
+use Rattle.page.specs.Scratched.{Scratched}
 use Rattle.page.specs.Contents.{xPart, yPart, Vertices, verticesOf}
 use Rattle.page.specs.Loaded.{Columns}
 
@@ -33,7 +33,7 @@ y-part h b y end d e =
 
 module _ (h : Head) (b xs ys s : List ℕ) (n : ℕ) (e : s ≡ xPart h b) (l : n ≡ h .v) where
   -- the x column is refused
-  pub columns-refused : (w : Refusal) → Given (decodeOf 64 s n) (Refused w) xs → Columns h b (Refused w) xs ys
+  pub columns-refused : (w : Refusal) → Scratched (decodeOf 64 s n) (Refused w) xs → Columns h b (Refused w) xs ys
   unfolding verticesOf on
   columns-refused w g =
       let o : decodeOf 64 (xPart h b) (h .v) ≡ refused w = ap₂ (decodeOf 64) (sym e) (sym l) ∙ refused-passed _ w (g .verdict) in
@@ -41,7 +41,7 @@ module _ (h : Head) (b xs ys s : List ℕ) (n : ℕ) (e : s ≡ xPart h b) (l : 
       record { verdict = passed-refused w r; vertices = λ q. absurd (let y : _≡_ {A = ℕ} 0 1 = cc in omega arith) }
 
   -- the x column is read, and the y column is what it is
-  pub columns-both : (t : List ℕ) (m : ℕ) (r : Verdict) → t ≡ yPart h b → m ≡ h .v → Given (decodeOf 64 s n) Holds xs → Given (decodeOf 64 t m) r ys
+  pub columns-both : (t : List ℕ) (m : ℕ) (r : Verdict) → t ≡ yPart h b → m ≡ h .v → Scratched (decodeOf 64 s n) Holds xs → Scratched (decodeOf 64 t m) r ys
       → Columns h b r xs ys
   unfolding verticesOf on
   columns-both t m r f k g u =

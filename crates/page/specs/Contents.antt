@@ -4,7 +4,7 @@ use Prim.Native.Nat.{ℕ, _+_}
 use mathlib.Core.List.{List}
 use lib.ListN.{take, drop}
 use Rattle.answer.specs.Outcome.{Out, ok, on}
-use Rattle.le.specs.Number.{numbersAt}
+use Rattle.le.specs.Number.{numbersEach, numbersAt}
 use Rattle.column.specs.Read.{decodeOf}
 use Rattle.extent.specs.Boxes.{patterns}
 use Rattle.types.specs.Parts.{partsRule}
@@ -16,7 +16,7 @@ use Rattle.shape.specs.Rules.{boxRule, outlineRules}
 
 -- the register numbers
 unfoldable pub registersOf : Head → List ℕ → List ℕ
-registersOf h b = numbersAt 4 (h .g) b (h .layout .registers)
+registersOf h b = numbersEach (h .layout .each) 4 (h .g) b (h .layout .registers)
 
 -- the types
 unfoldable pub typesOf : Head → List ℕ → List ℕ

@@ -1,4 +1,4 @@
-pub mod Given
+pub mod Scratched
 pub mod Contents
 pub mod Loaded
 pub mod Opened

@@ -3,10 +3,11 @@ use Prim.Native.Nat.{ℕ}
 use mathlib.Core.Path.{_≡_}
 use mathlib.Core.List.{List}
 use lib.ListN.{length, take}
+use Rattle.answer.specs.Limits.{mostVertices, mostPageShapes}
 use Rattle.answer.specs.Outcome.{Out, refused, ok, on, inPage}
 use Rattle.frame.specs.declared.cursor.Cursor.{Cursor}
 use Rattle.frame.specs.declared.cursor.PageAt.{PageAt}
-use Rattle.frame.specs.Step.{page, part, stepOf}
+use Rattle.frame.specs.Next.{page, part, nextOf}
 use Rattle.shape.specs.Outline.{Shape}
 use Rattle.page.specs.declared.open.Opened.{Opened}
 use Rattle.page.specs.declared.open.Opened.the-variants.{Page, Refused}
@@ -15,10 +16,10 @@ use Rattle.page.specs.Loaded.{Loaded}
 
 -- a scratch of a whole page: room for the most shapes, parts and vertices that a page has
 pub record Scratch (counts lens xs ys : List ℕ) : Type 0 where
-  pub for-counts : length counts ≡ 256
-  pub for-lens : length lens ≡ 2048
-  pub for-xs : length xs ≡ 2048
-  pub for-ys : length ys ≡ 2048
+  pub for-counts : length counts ≡ mostPageShapes
+  pub for-lens : length lens ≡ mostVertices
+  pub for-xs : length xs ≡ mostVertices
+  pub for-ys : length ys ≡ mostVertices
 
 -- the contents of a page of the file s, which is page k; a refusal has that page
 abbrev pub contentsIn : List ℕ → ℕ → PageAt → Out (List Shape)
@@ -36,5 +37,5 @@ InScratch s p counts lens xs ys =
 
 -- the contract: the page that stands at the cursor, or the refusal of its contents; and where these pass, the scratch holds them
 pub record Opens (s : List ℕ) (c : Cursor) (says : Opened) (counts lens xs ys : List ℕ) : Type 0 where
-  pub said : (p : PageAt) → stepOf s c ≡ ok (page p) → saidOpened says ≡ on (contentsIn s (c .pages) p) (λ here. ok p)
-  pub lists : (p : PageAt) → says ≡ Page p → (stepOf s c ≡ ok (page p)) × InScratch s p counts lens xs ys
+  pub said : (p : PageAt) → nextOf s c ≡ ok (page p) → saidOpened says ≡ on (contentsIn s (c .pages) p) (λ here. ok p)
+  pub lists : (p : PageAt) → says ≡ Page p → (nextOf s c ≡ ok (page p)) × InScratch s p counts lens xs ys

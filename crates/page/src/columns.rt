@@ -2,8 +2,9 @@
 ghost use mathlib.Core.Path.{_≡_};
 ghost use Prim.Native.Nat.{_+_, _≤_};
 ghost use lib.ListN.{length};
+ghost use Rattle.answer.specs.Limits.{mostVertices};
 ghost use Rattle.column.specs.Read.{decodeOf};
-ghost use Rattle.page.specs.Given.{Given};
+ghost use Rattle.page.specs.Scratched.{Scratched};
 ghost use Rattle.page.specs.Loaded.{Columns};
 use answer::Filled;
 use answer::Verdict;
@@ -11,8 +12,8 @@ use frame::head::Head;
 
 // As many values of a column as the scratch holds.
 pub(crate) fn column_into(s: &[u8], out: &mut [u64]) -> Verdict
-    requires { ⌜ length (now out) ≤ 2048 ⌝ }
-    ensures { λ r. ⌜ Given (decodeOf 64 (now (s .entry)) (length (now (out .entry)))) r (now (out .exit)) ⌝ }
+    requires { ⌜ length (now out) ≤ mostVertices ⌝ }
+    ensures { λ r. ⌜ Scratched (decodeOf 64 (now (s .entry)) (length (now (out .entry)))) r (now (out .exit)) ⌝ }
 {
     let n = out.len();
     match column::read::decode(s, n, out) {
@@ -23,7 +24,9 @@ pub(crate) fn column_into(s: &[u8], out: &mut [u64]) -> Verdict
 
 // The x column and the y column of a page, each as the part of the body that holds it.
 pub(crate) fn columns(b: &[u8], h: Head, xs: &mut [u64], ys: &mut [u64]) -> Verdict
-    requires { ⌜ (length (now b) ≡ h .layout .columns + h .cx + h .cy) × (h .v ≤ 2048) × (length (now xs) ≡ h .v) × (length (now ys) ≡ h .v) ⌝ }
+    requires { ⌜ length (now b) ≡ h .layout .columns + h .cx + h .cy ⌝ }
+    requires { ⌜ h .v ≤ mostVertices ⌝ }
+    requires { ⌜ (length (now xs) ≡ h .v) × (length (now ys) ≡ h .v) ⌝ }
     ensures { λ r. ⌜ Columns h (now (b .entry)) r (now (xs .exit)) (now (ys .exit)) ⌝ }
 {
     let x = h.layout.columns;

@@ -1,17 +1,13 @@
 // A page's contents, read into a scratch that the caller lends: "each rule over the page before the next: 11, x column, y column, 12, 13, 14, 15,
 // 16". The columns are decoded once.
 ghost use mathlib.Core.Path.{_≡_};
-ghost use mathlib.Core.Bool.{true};
-ghost use Prim.Native.Nat.{ℕ, _≤_};
-ghost use lib.ListN.{length};
-ghost use Rattle.answer.specs.Outcome.{ok, on};
+ghost use Prim.Native.Nat.{ℕ};
+ghost use Rattle.answer.specs.Outcome.{ok};
 ghost use Rattle.answer.specs.Rule.{judged};
 ghost use Rattle.extent.specs.Boxes.{patterns, FiniteBox};
-ghost use Rattle.types.specs.Parts.{partsHold};
 ghost use Rattle.frame.specs.Head.{headOf};
-ghost use Rattle.shape.specs.Outline.{outlinesOf};
-ghost use Rattle.shape.specs.Rules.{boxRule, outlineRules};
-ghost use Rattle.page.specs.Loaded.{Loads};
+ghost use Rattle.shape.specs.Ready.{Parted};
+ghost use Rattle.page.specs.Loaded.{ScratchFor, vertexRulesIn, Loads};
 use crate::columns::columns;
 use answer::Refusal;
 use answer::Verdict;
@@ -26,7 +22,7 @@ use shape::rules::box_rule;
 use types::parts::parts_rule;
 
 // 12 to 16 over a page's shapes: one walk over the vertices serves 12 and 16. Rule 11 has passed.
-fn page_rules(
+fn vertex_rules(
     bounds: Box,
     types: &[u8],
     counts: &[u16],
@@ -34,8 +30,9 @@ fn page_rules(
     xs: &[u64],
     ys: &[u64],
 ) -> Verdict
-    requires { ⌜ FiniteBox (patterns bounds) × (partsHold (now types) (now counts) (now lens) (length (now xs)) ≡ true) × (length (now ys) ≡ length (now xs)) × (length (now xs) ≤ 2048) ⌝ }
-    ensures { λ r. ⌜ judged r ≡ on (outlineRules (outlinesOf (now (types .entry)) (now (counts .entry)) (now (lens .entry)) (now (xs .entry)) (now (ys .entry))) (now (xs .entry)) (now (ys .entry))) (λ _. boxRule (patterns bounds) (now (xs .entry)) (now (ys .entry))) ⌝ }
+    requires { ⌜ FiniteBox (patterns bounds) ⌝ }
+    requires { ⌜ Parted (now types) (now counts) (now lens) (now xs) (now ys) ⌝ }
+    ensures { λ r. ⌜ judged r ≡ vertexRulesIn (patterns bounds) (types .entry) (counts .entry) (lens .entry) (xs .entry) (ys .entry) ⌝ }
 {
     match box_if_finite(xs, ys) {
         Form::Bad => Verdict::Refused(Refusal::because(FINITE)),
@@ -58,7 +55,8 @@ pub(crate) fn load(
     xs: &mut [u64],
     ys: &mut [u64],
 ) -> Verdict
-    requires { ⌜ ((e : ℕ) × (headOf e (now b) ≡ ok h)) × (length (now counts) ≡ h .g) × (length (now lens) ≡ h .p) × (length (now xs) ≡ h .v) × (length (now ys) ≡ h .v) ⌝ }
+    requires { ⌜ ((e : ℕ) × (headOf e (now b) ≡ ok h)) ⌝ }
+    requires { ⌜ ScratchFor h (now counts) (now lens) (now xs) (now ys) ⌝ }
     ensures { λ r. ⌜ Loads h (now (b .entry)) r (now (counts .exit)) (now (lens .exit)) (now (xs .exit)) (now (ys .exit)) ⌝ }
 {
     read_u16s(b, h.layout.counts, counts);
@@ -71,5 +69,5 @@ pub(crate) fn load(
     if let Verdict::Refused(w) = columns(b, h, xs, ys) {
         return Verdict::Refused(w);
     }
-    page_rules(h.bounds, &b[from..to], counts, lens, xs, ys)
+    vertex_rules(h.bounds, &b[from..to], counts, lens, xs, ys)
 }

@@ -1,10 +1,10 @@
-// A page of a file, opened: cut from the file's bytes, read into a scratch that serves every page, and judged. This is the one place where a page is opened, and where
-// a refusal of its contents is given its page.
+// A page of a file, opened: cut from the file's bytes, read into a scratch that serves every page, and judged. This is the one place where a page is
+// opened, and where a refusal of its contents is given its page.
 ghost use mathlib.Core.Path.{_≡_};
 ghost use Rattle.answer.specs.Outcome.{ok};
 ghost use Rattle.frame.specs.declared.cursor.PageAt.{PageAt};
 ghost use Rattle.frame.specs.Ahead.{Within};
-ghost use Rattle.frame.specs.Step.{page, stepOf};
+ghost use Rattle.frame.specs.Next.{page, nextOf};
 ghost use Rattle.page.specs.Opened.{Scratch, Opens};
 use crate::contents::load;
 use answer::Refusal;
@@ -28,7 +28,9 @@ pub fn open(
     xs: &mut [u64],
     ys: &mut [u64],
 ) -> Opened
-    requires { ⌜ Within c × ((p : PageAt) × (stepOf (now s) c ≡ ok (page p))) × Scratch (now counts) (now lens) (now xs) (now ys) ⌝ }
+    requires { ⌜ Within c ⌝ }
+    requires { ⌜ ((p : PageAt) × (nextOf (now s) c ≡ ok (page p))) ⌝ }
+    requires { ⌜ Scratch (now counts) (now lens) (now xs) (now ys) ⌝ }
     ensures { λ r. ⌜ Opens (now (s .entry)) c r (now (counts .exit)) (now (lens .exit)) (now (xs .exit)) (now (ys .exit)) ⌝ }
 {
     let p = page_at(s, c);

@@ -10,7 +10,7 @@ use Rattle.answer.specs.declared.Refusal.{Refusal}
 use Rattle.answer.specs.Outcome.{refused, ok}
 use Rattle.frame.specs.declared.cursor.Cursor.{Cursor}
 use Rattle.frame.specs.declared.cursor.PageAt.{PageAt}
-use Rattle.frame.specs.Step.{page, end, stepOf}
+use Rattle.frame.specs.Next.{page, end, nextOf}
 use Rattle.frame.specs.Frame.{Page, Frame, pageOf, frameOf}
 use Rattle.frame.proofs.Found.{Paged, page-is}
 use Rattle.frame.proofs.Walks.{pages-on, shapes-on}
@@ -76,13 +76,13 @@ onward-first s c b = record {
 
 module _ (s : List ℕ) (place : ℕ) (c : Cursor) (o : Onward s c) (h : c .shapes ≤ place) where
   -- at the end there is no shape at that place
-  pub onward-end : stepOf s c ≡ ok end → Seeks s place (Refused (because table.place))
+  pub onward-end : nextOf s c ≡ ok end → Seeks s place (Refused (because table.place))
   onward-end e =
       let z : o .pages ≡ [] = ahead-end s c (o .pages) (o .ahead) e in
       seeks-refused s place (because table.place)
       (o .same place h ∙ ap (seekIn (c .pages) (place - c .shapes)) z ∙ seek-none (c .pages) (place - c .shapes))
 
-  module _ (p : PageAt) (here : stepOf s c ≡ ok (page p)) where
+  module _ (p : PageAt) (here : nextOf s c ≡ ok (page p)) where
     rest : (qs : List Page) × (o .pages ≡ pageOf s p ∷ qs) × Ahead s (p .next) qs
     rest = ahead-page s c (o .pages) (o .ahead) p here
 

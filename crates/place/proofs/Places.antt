@@ -16,10 +16,10 @@ use Rattle.answer.specs.Outcome.{Out, refused, ok, on, Fills}
 use Rattle.answer.proofs.Outcomes.{never, ok-inj, met, unmet, on-ok, fills-refused, fills-ok}
 use Rattle.answer.proofs.Both.{both-l, both-r}
 use Rattle.le.proofs.Copying.{copy-more}
-use Rattle.answer.specs.Every.{allOf}
+use Rattle.answer.specs.All.{allOf}
 use Rattle.answer.proofs.Alls.{all-none, all-cons}
 use Rattle.frame.specs.declared.cursor.Cursor.{Cursor}
-use Rattle.frame.specs.Step.{part}
+use Rattle.frame.specs.Next.{part}
 use Rattle.frame.specs.declared.walk.Totals.{Totals}
 use Rattle.frame.specs.Frame.{Page, Frame, shapesOf, frameOf, totalsOf}
 use Rattle.answer.proofs.Orders.{on-refused, on-value}

@@ -4,7 +4,7 @@ use mathlib.Core.Path.{_≡_}
 use mathlib.Core.List.{List}
 use Rattle.answer.specs.Outcome.{ok}
 use Rattle.frame.specs.declared.cursor.Cursor.{Cursor}
-use Rattle.frame.specs.Step.{page, stepOf}
+use Rattle.frame.specs.Next.{page, nextOf}
 use Rattle.frame.specs.Frame.{Page}
 use Rattle.frame.specs.Ahead.{Ahead}
 use Rattle.place.specs.declared.seek.SeatAt.{SeatAt}
@@ -21,7 +21,7 @@ pub record Onward (s : List ℕ) (c : Cursor) : Type 0 where
 -- the page of a seat stands at its cursor, the place lies in it, and from there one may seek on
 pub record Seated (s : List ℕ) (place : ℕ) (t : SeatAt) : Type 0 where
   pub onward : Onward s (t .at)
-  pub found : stepOf s (t .at) ≡ ok (page (t .page))
+  pub found : nextOf s (t .at) ≡ ok (page (t .page))
   pub within : t .index < t .page .head .g
   pub there : t .at .shapes + t .index ≡ place
 

@@ -4,6 +4,7 @@ use mathlib.Core.Bool.{_&&_}
 use mathlib.Core.List.{List, [], _∷_, map}
 use lib.ListN.{length}
 use lib.Dec.{leb}
+use denote.Ref.{RefT, now}
 use Rattle.answer.specs.Table as table
 use Rattle.answer.specs.Refusal.{because}
 use Rattle.answer.specs.Outcome.{Out, ok, need, on}
@@ -37,6 +38,10 @@ unfoldable pub rowsOf : List ℕ → List ℕ → ℕ → ℕ → Out (List Row)
 rowsOf s places registers types =
     on (rowsIn s places) (λ rs.
     need (leb (length places) registers && leb (length places) types) (because table.room) (ok rs))
+
+-- the same, by the slices: the file, the places, and the two rooms
+abbrev pub rowsWithin : RefT (List ℕ) → RefT (List ℕ) → RefT (List ℕ) → RefT (List ℕ) → Out (List Row)
+rowsWithin s places registers types = rowsOf (now s) (now places) (length (now registers)) (length (now types))
 
 -- their registers
 unfoldable pub registersFrom : Out (List Row) → Out (List ℕ)

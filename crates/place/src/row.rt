@@ -4,7 +4,7 @@ ghost use Prim.Native.Nat.{ℕ, _+_, _≤_, _<_};
 ghost use lib.ListN.{length};
 ghost use Rattle.answer.specs.Outcome.{ok};
 ghost use Rattle.frame.specs.Head.{headOf};
-ghost use Rattle.frame.specs.Step.{part};
+ghost use Rattle.frame.specs.Next.{part};
 ghost use Rattle.place.specs.Row.{rowOf};
 use frame::cursor::PageAt;
 use frame::head::Head;
@@ -21,7 +21,7 @@ fn row_in(b: &[u8], h: Head, i: usize) -> Row
     requires { ⌜ ((e : ℕ) × (headOf e (now b) ≡ ok h)) × (i < h .g) ⌝ }
     ensures { λ r. ⌜ r ≡ rowOf h (now (b .entry)) i ⌝ }
 {
-    let register = u32_at(b, h.layout.registers + 4 * i) as u32;
+    let register = u32_at(b, h.layout.registers + h.layout.each * i) as u32;
     let at = h.layout.types + i;
     let kind = b[at];
     Row { register, kind }

@@ -4,11 +4,12 @@ ghost use mathlib.Core.List.{List};
 ghost use Prim.Native.Nat.{ℕ, _≤_};
 ghost use lib.Dec.{ltb};
 ghost use lib.ListN.{length};
-ghost use Rattle.answer.specs.Outcome.{ok, Fills};
-ghost use Rattle.answer.specs.Every.{allOf};
+ghost use Rattle.answer.specs.Outcome.{ok};
+ghost use Rattle.answer.specs.All.{allOf};
 ghost use Rattle.place.specs.declared.row.Row.{Row};
+ghost use Rattle.answer.specs.Lent.{FillsIn};
 ghost use Rattle.place.specs.Onward.{Onward};
-ghost use Rattle.place.specs.Rows.{rowsIn, rowsOf, registersFrom, typesFrom};
+ghost use Rattle.place.specs.Rows.{rowsIn, rowsWithin, registersFrom, typesFrom};
 use crate::row::row_at;
 use crate::seek::Sought;
 use crate::seek::seek;
@@ -54,9 +55,11 @@ fn put_rows(
     registers: &mut [u32],
     types: &mut [u8],
 ) -> Filled
-    requires { ⌜ Onward (now s) from × (from .shapes ≡ 0) × ((rs : List Row) × (rowsIn (now s) (now places) ≡ ok rs)) × (length (now places) ≤ length (now registers)) × (length (now places) ≤ length (now types)) ⌝ }
-    ensures registers { λ r. ⌜ Fills (registersFrom (rowsIn (now (s .entry)) (now (places .entry)))) (now (registers .entry)) r (now (registers .exit)) ⌝ }
-    ensures types { λ r. ⌜ Fills (typesFrom (rowsIn (now (s .entry)) (now (places .entry)))) (now (types .entry)) r (now (types .exit)) ⌝ }
+    requires { ⌜ Onward (now s) from × (from .shapes ≡ 0) ⌝ }
+    requires { ⌜ ((rs : List Row) × (rowsIn (now s) (now places) ≡ ok rs)) ⌝ }
+    requires { ⌜ (length (now places) ≤ length (now registers)) × (length (now places) ≤ length (now types)) ⌝ }
+    ensures registers { λ r. ⌜ FillsIn (registersFrom (rowsIn (now (s .entry)) (now (places .entry)))) registers r ⌝ }
+    ensures types { λ r. ⌜ FillsIn (typesFrom (rowsIn (now (s .entry)) (now (places .entry)))) types r ⌝ }
 {
     let n = places.len();
     let mut c = from;
@@ -81,8 +84,8 @@ fn put_rows(
 
 // Puts the rows for places of a file, any bytes and any places: their registers at the start of one lent room, their types at the start of the other.
 pub fn rows(s: &[u8], places: &[u32], registers: &mut [u32], types: &mut [u8]) -> Filled
-    ensures registers { λ r. ⌜ Fills (registersFrom (rowsOf (now (s .entry)) (now (places .entry)) (length (now (registers .entry))) (length (now (types .entry))))) (now (registers .entry)) r (now (registers .exit)) ⌝ }
-    ensures types { λ r. ⌜ Fills (typesFrom (rowsOf (now (s .entry)) (now (places .entry)) (length (now (registers .entry))) (length (now (types .entry))))) (now (types .entry)) r (now (types .exit)) ⌝ }
+    ensures registers { λ r. ⌜ FillsIn (registersFrom (rowsWithin (s .entry) (places .entry) (registers .entry) (types .entry))) registers r ⌝ }
+    ensures types { λ r. ⌜ FillsIn (typesFrom (rowsWithin (s .entry) (places .entry) (registers .entry) (types .entry))) types r ⌝ }
 {
     match frame(s) {
         Checked::Refused(w) => Filled::Refused(w),

@@ -2,6 +2,7 @@
 ghost use mathlib.Core.Path.{_≡_};
 ghost use Prim.Native.Nat.{_≤_, _<_};
 ghost use lib.ListN.{length};
+ghost use Rattle.answer.specs.Limits.{mostVertices};
 ghost use Rattle.types.specs.Parts.{total};
 ghost use Rattle.place.specs.Span.{spanOf};
 use types::parts::total;
@@ -16,7 +17,9 @@ pub struct Span {
 
 // The span of the shape at index i, by the page's part counts and part lengths.
 pub fn span_of(counts: &[u16], lens: &[u16], i: usize) -> Span
-    requires { ⌜ (i < length (now counts)) × (total (now counts) ≡ length (now lens)) × (length (now lens) ≤ 2048) × (total (now lens) ≤ 2048) ⌝ }
+    requires { ⌜ i < length (now counts) ⌝ }
+    requires { ⌜ total (now counts) ≡ length (now lens) ⌝ }
+    requires { ⌜ (length (now lens) ≤ mostVertices) × (total (now lens) ≤ mostVertices) ⌝ }
     ensures { λ r. ⌜ r ≡ spanOf (now (counts .entry)) (now (lens .entry)) i ⌝ }
 {
     let part = total(&counts[..i]);

@@ -7,7 +7,8 @@ use Prim.Native.Nat.{ℕ, zero, suc, _-_, _≤_, _<_, min}
 use native.Mathlib.Omega.{arith}
 use lib.ListN.{length, take, drop, length-take, length-drop}
 use Rattle.answer.proofs.Both.{not-true, no-both}
-use Rattle.extent.specs.Boxes.{Bounds, sameBox, meets, boxOf}
+use Rattle.extent.specs.declared.bounds.Bounds.{Bounds}
+use Rattle.extent.specs.Boxes.{sameBox, meets, boxOf}
 use Rattle.extent.proofs.Boxed.{Covers, covers-part}
 use Rattle.extent.proofs.Meeting.{covers-meets, meets-sym}
 use Rattle.extent.proofs.Sames.{same-meets}
@@ -71,8 +72,8 @@ module _ (a : Ask) (xs ys : List ℕ) (k n v : ℕ) (p : Bounds) (l : length ys 
   unfolding hit opens
   hit-opens h = touches-more (a .query) _ _ (λ w. part-in-page xs ys k n l v p w e s) h
 
-  pub closed-no-hit : opens a v p ≡ false → hit a (take n (drop k xs)) (take n (drop k ys)) ≡ false
-  closed-no-hit c = not-true _ (λ h. no-both c (hit-opens h))
+  pub unopened-no-hit : opens a v p ≡ false → hit a (take n (drop k xs)) (take n (drop k ys)) ≡ false
+  unopened-no-hit c = not-true _ (λ h. no-both c (hit-opens h))
 
 -- ---- everything, and what has no vertex
 

@@ -15,21 +15,22 @@ use Rattle.answer.specs.Refusal.{because}
 use Rattle.answer.specs.Outcome.{Out, refused, ok, on, need}
 use Rattle.answer.proofs.Outcomes.{never, ok-inj, refused-inj, met, unmet}
 use Rattle.answer.proofs.Both.{and-false}
-use Rattle.le.specs.declared.block.Block.{Block}
+use Rattle.block.specs.declared.Block.{Block}
 use Rattle.le.specs.Number.{numberAt}
-use Rattle.le.specs.Block.{blockAt}
+use Rattle.block.specs.Block.{blockAt}
 use Rattle.extent.specs.declared.boxes.Box.{Box}
 use Rattle.extent.specs.declared.boxes.Form.the-variants.{Good, Bad}
 use Rattle.extent.specs.Rank.{finite}
-use Rattle.extent.specs.Boxes.{Bounds, boundsAt}
+use Rattle.extent.specs.declared.bounds.Bounds.{Bounds}
+use Rattle.extent.specs.Boxes.{boundsAt}
 use Rattle.extent.specs.Forms.{floatsOf, formOf}
 use Rattle.extent.proofs.Forms.{form-good, form-bad}
 use Rattle.query.specs.declared.ask.Ask.{Ask}
 use Rattle.query.specs.declared.ask.Query.the-variants.{Everything, Spot, Window}
-use Rattle.query.specs.declared.block.BlockLen.{BlockLen}
-use Rattle.query.specs.declared.block.BlockLen.the-variants as len
-use Rattle.query.specs.declared.block.AskRead.{AskRead}
-use Rattle.query.specs.declared.block.AskRead.the-variants as read
+use Rattle.query.specs.declared.query_block.BlockLen.{BlockLen}
+use Rattle.query.specs.declared.query_block.BlockLen.the-variants as len
+use Rattle.query.specs.declared.query_block.AskRead.{AskRead}
+use Rattle.query.specs.declared.query_block.AskRead.the-variants as read
 use Rattle.query.specs.Block.{instead, bodyLen, lenOf, blockLen, saidLen, spotAsked, windowAsked, asked, askOf, saidAsk}
 
 -- ---- the body's length

@@ -1,7 +1,7 @@
 pub mod Touching
 pub mod Blocks
 pub mod Asking
-pub mod Sounds
+pub mod Good
 pub mod Spots
 pub mod Written
 pub mod Refusals

@@ -11,9 +11,10 @@ use Rattle.answer.specs.Refusal.{because}
 use Rattle.answer.specs.Outcome.{Out, refused, ok, need, on}
 use Rattle.answer.proofs.Outcomes.{never, refused-inj}
 use Rattle.le.specs.Number.{numberAt}
-use Rattle.le.specs.Block.{blockAt}
+use Rattle.block.specs.Block.{blockAt}
 use Rattle.extent.specs.Rank.{finite}
-use Rattle.extent.specs.Boxes.{Bounds, boundsAt, goodForm}
+use Rattle.extent.specs.declared.bounds.Bounds.{Bounds}
+use Rattle.extent.specs.Boxes.{boundsAt, goodForm}
 use Rattle.query.specs.Block.{instead, bodyLen, lenOf, blockLen, spotAsked, windowAsked, asked, askOf}
 
 -- no other refusal

@@ -1,4 +1,4 @@
--- Spots, by computation: one at (-0, 0) meets a shape and a page at 0, since both zeros are equal; one at a NaN or an infinity is not sound. Numbers
+-- Spots, by computation: one at (-0, 0) meets a shape and a page at 0, since both zeros are equal; one at a NaN or an infinity is not good. Numbers
 -- are written by their patterns. Assumes nothing.
 use mathlib.Core.Path.{_≡_, refl}
 use mathlib.Core.Bool.{Bool, true, false}
@@ -9,7 +9,7 @@ use Rattle.extent.specs.Rank.{rank, finite, atMost, below}
 use Rattle.extent.specs.Boxes.{meets, spotOf, lesser, greater, leastOf, greatestOf, boxOf}
 use Rattle.query.specs.declared.ask.Ask.{Ask}
 use Rattle.query.specs.declared.ask.Query.the-variants.{Spot}
-use Rattle.query.specs.Ask.{sound, reachOf, stored, inWindow, touches, hit, opens}
+use Rattle.query.specs.Ask.{goodQuery, reachOf, stored, inWindow, touches, hit, opens}
 
 abbrev spot : ℕ → ℕ → Ask
 spot x y = record { query = Spot (ofBits binary64 x) (ofBits binary64 y) }
@@ -34,11 +34,11 @@ unfolding opens touches inWindow stored meets atMost rank ofBits toBits
 zero-opens-page = refl
 
 -- not finite: refused, and never compared
-pub nan-not-sound : (y : Float) → sound (Spot nan y) ≡ false
-unfolding sound toBits finite
-nan-not-sound y = refl
+pub nan-not-good : (y : Float) → goodQuery (Spot nan y) ≡ false
+unfolding goodQuery toBits finite
+nan-not-good y = refl
 
-pub infinity-not-sound : (s : Bool) (y : Float) → sound (Spot (inf s) y) ≡ false
-unfolding sound toBits finite
-infinity-not-sound true y = refl
-infinity-not-sound false y = refl
+pub infinity-not-good : (s : Bool) (y : Float) → goodQuery (Spot (inf s) y) ≡ false
+unfolding goodQuery toBits finite
+infinity-not-good true y = refl
+infinity-not-good false y = refl

@@ -1,4 +1,4 @@
--- What a query meets, by each way through the definitions, and that a sound query's window is finite. Assumes nothing.
+-- What a query meets, by each way through the definitions, and that a good query's window is finite. Assumes nothing.
 use mathlib.Core.Path.{_≡_, refl, sym, ap, _∙_}
 use mathlib.Core.Bool.{true, false, _&&_}
 use mathlib.Core.List.{List, [], _∷_}
@@ -8,12 +8,13 @@ use lib.ListN.{length}
 use lib.Ieee.{Float}
 use Rattle.answer.proofs.Both.{both-l, both-r}
 use Rattle.extent.specs.Rank.{finite}
-use Rattle.extent.specs.Boxes.{Bounds, FiniteBox, patternOf, patterns, goodForm, meets, spotOf, boxOf}
+use Rattle.extent.specs.declared.bounds.Bounds.{Bounds}
+use Rattle.extent.specs.Boxes.{FiniteBox, patternOf, patterns, goodForm, meets, spotOf, boxOf}
 use Rattle.extent.specs.declared.boxes.Box.{Box}
 use Rattle.extent.proofs.Forms.{good-finite}
 use Rattle.query.specs.declared.ask.Query.{Query}
 use Rattle.query.specs.declared.ask.Query.the-variants.{Everything, Spot, Window}
-use Rattle.query.specs.Ask.{sound, Reach, nowhere, within, reachOf, stored, inWindow, touches}
+use Rattle.query.specs.Ask.{goodQuery, Reach, nowhere, within, reachOf, stored, inWindow, touches}
 
 -- ---- what something takes up
 
@@ -62,28 +63,28 @@ module _ (q : Query) (r : Reach) where
   unfolding touches
   touches-window b e = ap (λ (k : Query). touches k r) e
 
--- ---- a sound query
+-- ---- a good query
 
 module _ (q : Query) where
-  pub sound-everything : q ≡ Everything → sound q ≡ true
-  unfolding sound
-  sound-everything e = ap sound e
+  pub sound-everything : q ≡ Everything → goodQuery q ≡ true
+  unfolding goodQuery
+  sound-everything e = ap goodQuery e
 
-  pub sound-spot : (x y : Float) → q ≡ Spot x y → sound q ≡ (finite (patternOf x) && finite (patternOf y))
-  unfolding sound
-  sound-spot x y e = ap sound e
+  pub sound-spot : (x y : Float) → q ≡ Spot x y → goodQuery q ≡ (finite (patternOf x) && finite (patternOf y))
+  unfolding goodQuery
+  sound-spot x y e = ap goodQuery e
 
-  pub sound-window : (b : Box) → q ≡ Window b → sound q ≡ goodForm (patterns b)
-  unfolding sound
-  sound-window b e = ap sound e
+  pub sound-window : (b : Box) → q ≡ Window b → goodQuery q ≡ goodForm (patterns b)
+  unfolding goodQuery
+  sound-window b e = ap goodQuery e
 
   -- its window is finite
-  pub spot-finite : (x y : Float) → q ≡ Spot x y → sound q ≡ true → FiniteBox (spotOf (patternOf x) (patternOf y))
+  pub spot-finite : (x y : Float) → q ≡ Spot x y → goodQuery q ≡ true → FiniteBox (spotOf (patternOf x) (patternOf y))
   spot-finite x y e s =
       let h = sym (sound-spot x y e) ∙ s in
       let f = both-l (finite (patternOf x)) (finite (patternOf y)) h in
       let g = both-r (finite (patternOf x)) (finite (patternOf y)) h in
-      record { least-x = f; least-y = g; greatest-x = f; greatest-y = g }
+      record { «least_x» = f; «least_y» = g; «greatest_x» = f; «greatest_y» = g }
 
-  pub window-finite : (b : Box) → q ≡ Window b → sound q ≡ true → FiniteBox (patterns b)
+  pub window-finite : (b : Box) → q ≡ Window b → goodQuery q ≡ true → FiniteBox (patterns b)
   window-finite b e s = good-finite (patterns b) (sym (sound-window b e) ∙ s)

@@ -7,8 +7,9 @@ use lib.Dec.{T}
 use lib.ListN.{length}
 use lib.Ieee.{binary64, fits}
 use Rattle.answer.specs.Outcome.{ok}
-use Rattle.le.specs.declared.block.Block.{Block}
-use Rattle.le.specs.Block.{blockAt}
+use Rattle.block.specs.declared.Block.{Block}
+use Rattle.block.specs.Block.{headBytes, blockAt}
+use Rattle.block.specs.Kinds as kinds
 use Rattle.extent.specs.Forms.{FitsBox}
 use Rattle.query.specs.declared.ask.Ask.{Ask}
 use Rattle.query.specs.declared.ask.Query.{Query}
@@ -19,9 +20,9 @@ use Rattle.query.specs.Block.{bodyLen, asked}
 pub record Fronts (s : List ℕ) (n : ℕ) : Type 0 where
   pub block : Block
   pub found : blockAt s 0 ≡ ok block
-  pub kind : block .kind ≡ 4
+  pub kind : block .kind ≡ kinds.query
   pub body : bodyLen (block .len) ≡ true
-  pub takes : 6 + block .len ≡ n
+  pub takes : headBytes + block .len ≡ n
 
 -- the bytes s are exactly a query block, and ask a
 pub record Accepts (s : List ℕ) (a : Ask) : Type 0 where

@@ -5,16 +5,17 @@ use Prim.Native.Nat.{ℕ, zero, suc}
 use mathlib.Core.Bool.{Bool, true, false, _&&_}
 use mathlib.Core.List.{List, [], _∷_}
 use Rattle.extent.specs.Rank.{finite}
-use Rattle.extent.specs.Boxes.{Bounds, patternOf, patterns, goodForm, meets, spotOf, boxOf}
+use Rattle.extent.specs.declared.bounds.Bounds.{Bounds}
+use Rattle.extent.specs.Boxes.{patternOf, patterns, goodForm, meets, spotOf, boxOf}
 use Rattle.query.specs.declared.ask.Ask.{Ask}
 use Rattle.query.specs.declared.ask.Query.{Query}
 use Rattle.query.specs.declared.ask.Query.the-variants.{Everything, Spot, Window}
 
 -- its coordinates are finite and least ≤ greatest, whatever floats they are: the pattern of a NaN or an infinity is not finite
-unfoldable pub sound : Query → Bool
-sound Everything = true
-sound (Spot x y) = finite (patternOf x) && finite (patternOf y)
-sound (Window b) = goodForm (patterns b)
+unfoldable pub goodQuery : Query → Bool
+goodQuery Everything = true
+goodQuery (Spot x y) = finite (patternOf x) && finite (patternOf y)
+goodQuery (Window b) = goodForm (patterns b)
 
 -- ---- what something takes up
 

@@ -10,19 +10,21 @@ use Rattle.answer.specs.declared.Refusal.{Refusal}
 use Rattle.answer.specs.Table.{query}
 use Rattle.answer.specs.Refusal.{because}
 use Rattle.answer.specs.Outcome.{Out, refused, ok, need, on}
-use Rattle.le.specs.declared.block.Block.{Block}
+use Rattle.block.specs.declared.Block.{Block}
 use Rattle.le.specs.Number.{numberAt, runOf}
-use Rattle.le.specs.Block.{blockAt, blockHead}
+use Rattle.block.specs.Block.{headBytes, blockAt, blockHead}
+use Rattle.block.specs.Kinds as kinds
 use Rattle.extent.specs.Rank.{finite}
-use Rattle.extent.specs.Boxes.{Bounds, boundsAt, patternOf, goodForm}
+use Rattle.extent.specs.declared.bounds.Bounds.{Bounds}
+use Rattle.extent.specs.Boxes.{boundsAt, patternOf, goodForm}
 use Rattle.extent.specs.Forms.{floatsOf}
 use Rattle.query.specs.declared.ask.Ask.{Ask}
 use Rattle.query.specs.declared.ask.Query.{Query}
 use Rattle.query.specs.declared.ask.Query.the-variants.{Everything, Spot, Window}
-use Rattle.query.specs.declared.block.BlockLen.{BlockLen}
-use Rattle.query.specs.declared.block.BlockLen.the-variants as len
-use Rattle.query.specs.declared.block.AskRead.{AskRead}
-use Rattle.query.specs.declared.block.AskRead.the-variants as read
+use Rattle.query.specs.declared.query_block.BlockLen.{BlockLen}
+use Rattle.query.specs.declared.query_block.BlockLen.the-variants as len
+use Rattle.query.specs.declared.query_block.AskRead.{AskRead}
+use Rattle.query.specs.declared.query_block.AskRead.the-variants as read
 
 -- the same, whatever refusal being this one
 unfoldable pub instead : {A : Type 0} → Refusal → Out A → Out A
@@ -31,13 +33,21 @@ instead w (ok a) = ok a
 
 -- ---- the block at the front of an input
 
--- the body is empty, or 16 or 32 bytes
-unfoldable pub bodyLen : ℕ → Bool
-bodyLen n = eqb n 0 || eqb n 16 || eqb n 32
+-- the bytes of a body: two floats for a spot
+abbrev pub spotBytes : ℕ
+spotBytes = 16
 
--- the bytes that a query block takes: its head's six and its body
+-- four for a window
+abbrev pub windowBytes : ℕ
+windowBytes = 32
+
+-- the body is empty, or of so many bytes
+unfoldable pub bodyLen : ℕ → Bool
+bodyLen n = eqb n 0 || eqb n spotBytes || eqb n windowBytes
+
+-- the bytes that a query block takes: its head's and its body's
 unfoldable pub lenOf : Block → Out ℕ
-lenOf b = need (eqb (b .kind) 4 && bodyLen (b .len)) (because query) (ok (6 + b .len))
+lenOf b = need (eqb (b .kind) kinds.query && bodyLen (b .len)) (because query) (ok (headBytes + b .len))
 
 -- those of the query block at the front of the bytes s
 unfoldable pub blockLen : List ℕ → Out ℕ
@@ -61,9 +71,9 @@ windowAsked p = need (goodForm p) (because query) (ok (record { query = Window (
 -- by its length: everything, a spot, a window
 unfoldable pub asked : List ℕ → Out Ask
 asked s =
-    cond (eqb (length s) 6) (ok (record { query = Everything }))
-    (cond (eqb (length s) 22) (spotAsked (numberAt 8 s 6) (numberAt 8 s 14))
-    (cond (eqb (length s) 38) (windowAsked (boundsAt s 6)) (refused (because query))))
+    cond (eqb (length s) headBytes) (ok (record { query = Everything }))
+    (cond (eqb (length s) (headBytes + spotBytes)) (spotAsked (numberAt 8 s headBytes) (numberAt 8 s (headBytes + 8)))
+    (cond (eqb (length s) (headBytes + windowBytes)) (windowAsked (boundsAt s headBytes)) (refused (because query))))
 
 -- what the bytes of exactly a query block ask
 unfoldable pub askOf : List ℕ → Out Ask
@@ -82,9 +92,9 @@ queryPatterns Everything = []
 queryPatterns (Spot x y) = patternOf x ∷ patternOf y ∷ []
 queryPatterns (Window b) = patternOf (b .«least_x») ∷ patternOf (b .«least_y») ∷ patternOf (b .«greatest_x») ∷ patternOf (b .«greatest_y») ∷ []
 
--- a head of kind 4, and patterns, eight bytes each
+-- its head, and patterns, eight bytes each
 abbrev pub blockWith : List ℕ → List ℕ
-blockWith ps = blockHead (8 * length ps) 4 ++ runOf 8 ps
+blockWith ps = blockHead (8 * length ps) kinds.query ++ runOf 8 ps
 
 -- the block of a query
 unfoldable pub queryBlock : Query → List ℕ

@@ -6,7 +6,7 @@ ghost use Rattle.answer.specs.Table.{query};
 ghost use Rattle.answer.specs.Rule.{rule, judged};
 ghost use Rattle.extent.specs.Rank.{finite, allFinite};
 ghost use Rattle.extent.specs.Boxes.{patternOf, patterns, FiniteBox, spotOf};
-ghost use Rattle.query.specs.Ask.{sound, reachOf, stored, inWindow, hit, opens};
+ghost use Rattle.query.specs.Ask.{goodQuery, reachOf, stored, inWindow, hit, opens};
 use answer::Verdict;
 use answer::table::QUERY;
 use extent::boxes::Box;
@@ -38,8 +38,8 @@ fn spot_finite(x: f64, y: f64) -> bool
 }
 
 // Whether a query's coordinates are finite and least ≤ greatest, any floats.
-pub fn sound(q: Query) -> bool
-    ensures { λ r. ⌜ r ≡ sound q ⌝ }
+pub fn good_query(q: Query) -> bool
+    ensures { λ r. ⌜ r ≡ goodQuery q ⌝ }
 {
     match q {
         Query::Everything => true,
@@ -48,12 +48,12 @@ pub fn sound(q: Query) -> bool
     }
 }
 
-// The first rule of a search: the query is sound.
+// The first rule of a search: the query is good.
 pub fn judge(a: Ask) -> Verdict
-    ensures { λ r. ⌜ judged r ≡ rule (sound (a .query)) query ⌝ }
+    ensures { λ r. ⌜ judged r ≡ rule (goodQuery (a .query)) query ⌝ }
 {
     let q = a.query;
-    Verdict::of(sound(q), QUERY)
+    Verdict::of(good_query(q), QUERY)
 }
 
 // A spot is a window of one point.
@@ -92,7 +92,7 @@ fn page_in(w: Box, v: usize, b: Box) -> bool
 
 // Whether what is asked meets a shape, by the x and the y of its vertices.
 pub fn hit(a: Ask, xs: &[u64], ys: &[u64]) -> bool
-    requires { ⌜ (sound (a .query) ≡ true) × (length (now ys) ≡ length (now xs)) × (allFinite (now xs) ≡ true) × (allFinite (now ys) ≡ true) ⌝ }
+    requires { ⌜ (goodQuery (a .query) ≡ true) × (length (now ys) ≡ length (now xs)) × (allFinite (now xs) ≡ true) × (allFinite (now ys) ≡ true) ⌝ }
     ensures { λ r. ⌜ r ≡ hit a (now (xs .entry)) (now (ys .entry)) ⌝ }
 {
     let q = a.query;
@@ -105,7 +105,7 @@ pub fn hit(a: Ask, xs: &[u64], ys: &[u64]) -> bool
 
 // Whether what is asked opens a page, by the number of its vertices and its stored box.
 pub fn opens(a: Ask, v: usize, b: Box) -> bool
-    requires { ⌜ (sound (a .query) ≡ true) × FiniteBox (patterns b) ⌝ }
+    requires { ⌜ (goodQuery (a .query) ≡ true) × FiniteBox (patterns b) ⌝ }
     ensures { λ r. ⌜ r ≡ opens a v (patterns b) ⌝ }
 {
     let q = a.query;

@@ -1,3 +1,3 @@
 // Queries: what a searcher asks, and the block that it comes in.
 pub mod ask;
-pub mod block;
+pub mod query_block;

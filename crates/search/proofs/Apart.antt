@@ -15,7 +15,7 @@ use Rattle.le.proofs.Bytes.{number-at-part}
 use Rattle.extent.specs.Boxes.{boundsAt, patterns}
 use Rattle.extent.specs.Forms.{floatsOf}
 use Rattle.query.specs.declared.ask.Ask.{Ask}
-use Rattle.query.specs.Ask.{sound, opens}
+use Rattle.query.specs.Ask.{goodQuery, opens}
 use Rattle.frame.specs.declared.head.Head.{Head}
 use Rattle.frame.specs.declared.cursor.Cursor.{Cursor}
 use Rattle.frame.specs.declared.cursor.PageAt.{PageAt}
@@ -47,7 +47,7 @@ bounds-same b c e =
     let y = number-same 8 14 b c (omega arith) e in
     let z = number-same 8 22 b c (omega arith) e in
     let w = number-same 8 30 b c (omega arith) e in
-    λ i. record { least-x = x i; least-y = y i; greatest-x = z i; greatest-y = w i }
+    λ i. record { «least_x» = x i; «least_y» = y i; «greatest_x» = z i; «greatest_y» = w i }
 
 -- heads of bodies that are the same to the end of the box
 module _ (edition : ℕ) (b c : List ℕ) (h k : Head) (eh : headOf edition b ≡ ok h) (ek : headOf edition c ≡ ok k) (e : take 38 b ≡ take 38 c) where
@@ -127,7 +127,7 @@ module _ (a : Ask) (s t : List ℕ) (f h : Frame) (es : frameOf s ≡ ok f) (et 
       let two = ap (λ (c : Cursor). c .edition) (first-is t (y .0) (y .1) .after) in
       let m : metOf a 0 0 (f .pages) ≡ metOf a 0 0 (h .pages) = met-same (f .pages) (h .pages) a 0 0 s t (x .0) (y .0) (x .3) (y .3) (two ∙ sym one) w in
       hits-order a s
-      ∙ ap (λ (o : Out (List ℕ)). on (rule (sound (a .query)) table.query) (λ _. o))
+      ∙ ap (λ (o : Out (List ℕ)). on (rule (goodQuery (a .query)) table.query) (λ _. o))
       (met-order a s ∙ on-value (frameOf s) _ f es ∙ m ∙ sym (met-order a t ∙ on-value (frameOf t) _ h et))
       ∙ sym (hits-order a t)
 

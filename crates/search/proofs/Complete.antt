@@ -15,7 +15,7 @@ use Rattle.answer.proofs.Outcomes.{ok-inj, need-ok, on-ok, in-page-ok}
 use Rattle.answer.proofs.Rules.{rule-holds}
 use Rattle.extent.specs.Boxes.{patterns}
 use Rattle.query.specs.declared.ask.Ask.{Ask}
-use Rattle.query.specs.Ask.{sound, hit, opens}
+use Rattle.query.specs.Ask.{goodQuery, hit, opens}
 use Rattle.shape.specs.Outline.{Outline, Shape}
 use Rattle.frame.specs.Frame.{Page, Frame, frameOf}
 use Rattle.page.specs.Contents.{contentsOf}
@@ -25,7 +25,7 @@ use Rattle.file.specs.File.{pagesOf, shapesIn}
 use Rattle.search.specs.Search.{placesOf, hitsFrom, pageHits, metOf, hitsOf, searchOf, countOf}
 use Rattle.search.proofs.Opened.{page-closed, page-open}
 use Rattle.search.proofs.Sequence.{met-none, met-order, hits-order, met-page}
-use Rattle.search.proofs.Closed.{closed-none}
+use Rattle.search.proofs.Unopened.{closed-none}
 use Rattle.search.proofs.Services.{search-hits}
 
 -- ---- shapes of one run after another
@@ -80,14 +80,14 @@ met-complete (p ∷ ps) a k n ss e =
 
 -- ---- the services
 
-module _ (a : Ask) (s : List ℕ) (ss : List Shape) (e : shapesIn s ≡ ok ss) (q : sound (a .query) ≡ true) where
+module _ (a : Ask) (s : List ℕ) (ss : List Shape) (e : shapesIn s ≡ ok ss) (q : goodQuery (a .query) ≡ true) where
   pub hits-complete : hitsOf a s ≡ ok (hitsFrom a 0 ss)
   unfolding shapesIn
   hits-complete =
       let x = on-ok (frameOf s) _ ss e in
       let f : Frame = x .0 in
       hits-order a s
-      ∙ on-value (rule (sound (a .query)) table.query) _ tt (rule-holds (sound (a .query)) table.query q)
+      ∙ on-value (rule (goodQuery (a .query)) table.query) _ tt (rule-holds (goodQuery (a .query)) table.query q)
       ∙ met-order a s
       ∙ on-value (frameOf s) _ f (x .1)
       ∙ met-complete (f .pages) a 0 0 ss (x .2)

@@ -10,6 +10,6 @@ pub mod Listing
 pub mod Ordered
 pub mod Services
 pub mod Listed
-pub mod Closed
+pub mod Unopened
 pub mod Complete
 pub mod Apart

@@ -12,7 +12,7 @@ use Rattle.le.specs.Number.{number}
 use Rattle.query.specs.declared.ask.Ask.{Ask}
 use Rattle.frame.specs.declared.cursor.Cursor.{Cursor}
 use Rattle.frame.specs.declared.cursor.PageAt.{PageAt}
-use Rattle.frame.specs.Step.{page, end, stepOf}
+use Rattle.frame.specs.Next.{page, end, nextOf}
 use Rattle.frame.specs.Frame.{Page, pageOf, frameOf}
 use Rattle.frame.proofs.Found.{Paged, page-is}
 use Rattle.frame.proofs.Walks.{pages-on, shapes-on, within-on}
@@ -68,7 +68,7 @@ meeting-start a s d c b = record {
 
 module _ (a : Ask) (s d₀ : List ℕ) (c : Cursor) (found : ℕ) (d : List ℕ) (w : Meeting a s d₀ c found d) where
   -- at the end all is done
-  pub meeting-end : stepOf s c ≡ ok end → Meets (metIn a s) 0 262144 (Hits found) d₀ d
+  pub meeting-end : nextOf s c ≡ ok end → Meets (metIn a s) 0 262144 (Hits found) d₀ d
   meeting-end e = meets-ok found (w .done) all (w .count) (record { added = w .bits })
     where
       all : metIn a s ≡ ok (w .done)
@@ -76,7 +76,7 @@ module _ (a : Ask) (s d₀ : List ℕ) (c : Cursor) (found : ℕ) (d : List ℕ)
           let z : w .pages ≡ [] = ahead-end s c (w .pages) (w .ahead) e in
           w .same ∙ met-last (metOf a (c .pages) (c .shapes) (w .pages)) (w .done) (ap (metOf a (c .pages) (c .shapes)) z ∙ met-none a (c .pages) (c .shapes))
 
-  module _ (p : PageAt) (here : stepOf s c ≡ ok (page p)) where
+  module _ (p : PageAt) (here : nextOf s c ≡ ok (page p)) where
     -- the page is found
     pub meeting-paged : Paged s c p
     meeting-paged = page-is s c p here

@@ -19,9 +19,9 @@ use Rattle.shape.specs.Outline.{Outline, outlinesOf, registered}
 use Rattle.frame.specs.declared.head.Head.{Head}
 use Rattle.frame.specs.declared.cursor.Cursor.{Cursor}
 use Rattle.frame.specs.declared.cursor.PageAt.{PageAt}
-use Rattle.frame.specs.Step.{page, stepOf}
+use Rattle.frame.specs.Next.{page, nextOf}
 use Rattle.frame.specs.Frame.{Page, pageOf}
-use Rattle.frame.proofs.Steps.{page-inj}
+use Rattle.frame.proofs.Ways.{page-inj}
 use Rattle.page.specs.Contents.{registersOf, typesOf, countsOf, lensOf, contentsOf}
 use Rattle.page.specs.Loaded.{Loaded}
 use Rattle.answer.proofs.Orders.{on-refused, on-value}
@@ -122,7 +122,7 @@ pub opened-meets : {d e : List ℕ} (a : Ask) (k n to : ℕ) (p : Page) (r : Cou
 opened-meets {d = d} {e = e} a k n to p r t m = subst (λ (o : Out (List ℕ)). Meets o n to r d e) (sym (page-open a k n p t)) m
 
 -- and of the page that stands at a cursor, since there is only one
-pub meets-there : {d e : List ℕ} (a : Ask) (s : List ℕ) (c : Cursor) (r : Counted) (p : PageAt) → stepOf s c ≡ ok (page p)
+pub meets-there : {d e : List ℕ} (a : Ask) (s : List ℕ) (c : Cursor) (r : Counted) (p : PageAt) → nextOf s c ≡ ok (page p)
     → Meets (openedHits a (c .pages) (c .shapes) (pageOf s p)) (c .shapes) (c .shapes + p .head .g) r d e → PageMeets a s c r d e
 meets-there {d = d} {e = e} a s c r p f m q g =
     subst (λ (x : PageAt). Meets (openedHits a (c .pages) (c .shapes) (pageOf s x)) (c .shapes) (c .shapes + x .head .g) r d e) (page-inj (ok-inj (sym f ∙ g))) m

@@ -8,7 +8,7 @@ use Rattle.answer.specs.Outcome.{ok}
 use Rattle.answer.specs.Rule.{rule}
 use Rattle.answer.proofs.Outcomes.{ok-inj, on-ok}
 use Rattle.query.specs.declared.ask.Ask.{Ask}
-use Rattle.query.specs.Ask.{sound}
+use Rattle.query.specs.Ask.{goodQuery}
 use Rattle.frame.specs.declared.cursor.Cursor.{Cursor}
 use Rattle.frame.specs.declared.cursor.PageAt.{PageAt}
 use Rattle.frame.specs.Frame.{Page, Frame, frameOf, shapesOf}
@@ -60,7 +60,7 @@ module _ (a : Ask) (s l : List ℕ) (e : hitsOf a s ≡ ok l) where
   -- a file's hits are those of its pages
   pub hits-met : (f : Frame) × (frameOf s ≡ ok f) × (metOf a 0 0 (f .pages) ≡ ok l)
   hits-met =
-      let x = on-ok (rule (sound (a .query)) table.query) _ l (sym (hits-order a s) ∙ e) in
+      let x = on-ok (rule (goodQuery (a .query)) table.query) _ l (sym (hits-order a s) ∙ e) in
       on-ok (frameOf s) _ l (sym (met-order a s) ∙ x .2)
 
   pub hits-ascend : Ascending (shapesOf (hits-met .0 .pages)) 0 l

@@ -7,7 +7,7 @@ use Rattle.answer.specs.declared.Refusal.{Refusal}
 use Rattle.answer.specs.Outcome.{Out, refused, ok, on}
 use Rattle.answer.specs.Rule.{rule}
 use Rattle.query.specs.declared.ask.Ask.{Ask}
-use Rattle.query.specs.Ask.{sound}
+use Rattle.query.specs.Ask.{goodQuery}
 use Rattle.frame.specs.Frame.{Page, frameOf}
 use Rattle.search.specs.Search.{pageHits, metOf, metIn, hitsOf}
 use Rattle.answer.proofs.Orders.{on-refused, on-value}
@@ -28,7 +28,7 @@ unfolding metIn
 met-order a s = refl
 
 -- the query before the frame
-pub hits-order : (a : Ask) (s : List ℕ) → hitsOf a s ≡ on (rule (sound (a .query)) table.query) (λ _. metIn a s)
+pub hits-order : (a : Ask) (s : List ℕ) → hitsOf a s ≡ on (rule (goodQuery (a .query)) table.query) (λ _. metIn a s)
 unfolding hitsOf
 hits-order a s = refl
 

@@ -19,7 +19,7 @@ use Rattle.answer.proofs.Outcomes.{never, ok-inj, refused-inj, met, unmet, fill
 use Rattle.answer.proofs.Rules.{judged-holds, rule-holds, rule-ok}
 use Rattle.le.specs.Number.{number}
 use Rattle.query.specs.declared.ask.Ask.{Ask}
-use Rattle.query.specs.Ask.{sound}
+use Rattle.query.specs.Ask.{goodQuery}
 use Rattle.frame.specs.Frame.{frameOf}
 use Rattle.answer.proofs.Orders.{on-refused, on-value, then-refused, then-holds}
 use Rattle.search.specs.declared.count.Counted.{Counted}
@@ -34,17 +34,17 @@ use Rattle.search.proofs.Ordered.{hits-back}
 -- ---- the hits of a file
 
 -- what the judged query says
-pub query-sound : (a : Ask) → judged verdict.Holds ≡ rule (sound (a .query)) table.query → sound (a .query) ≡ true
-query-sound a q = rule-ok (sound (a .query)) table.query tt (sym q ∙ judged-holds)
+pub query-sound : (a : Ask) → judged verdict.Holds ≡ rule (goodQuery (a .query)) table.query → goodQuery (a .query) ≡ true
+query-sound a q = rule-ok (goodQuery (a .query)) table.query tt (sym q ∙ judged-holds)
 
 module _ (a : Ask) (s : List ℕ) where
-  pub query-refused : (w : Refusal) → judged (verdict.Refused w) ≡ rule (sound (a .query)) table.query → hitsOf a s ≡ refused w
-  query-refused w q = hits-order a s ∙ then-refused (rule (sound (a .query)) table.query) _ w q
+  pub query-refused : (w : Refusal) → judged (verdict.Refused w) ≡ rule (goodQuery (a .query)) table.query → hitsOf a s ≡ refused w
+  query-refused w q = hits-order a s ∙ then-refused (rule (goodQuery (a .query)) table.query) _ w q
 
-  -- of a sound query
-  module _ (q : sound (a .query) ≡ true) where
+  -- of a good query
+  module _ (q : goodQuery (a .query) ≡ true) where
     pub sound-met : hitsOf a s ≡ metIn a s
-    sound-met = hits-order a s ∙ then-holds (rule (sound (a .query)) table.query) _ (judged-holds ∙ sym (rule-holds (sound (a .query)) table.query q))
+    sound-met = hits-order a s ∙ then-holds (rule (goodQuery (a .query)) table.query) _ (judged-holds ∙ sym (rule-holds (goodQuery (a .query)) table.query q))
 
     pub frame-refused : {n to : ℕ} {d e : List ℕ} (w : Refusal) → frameOf s ≡ refused w → Meets (hitsOf a s) n to (Refused w) d e
     frame-refused w e = meets-refused w (sound-met ∙ met-order a s ∙ on-refused (frameOf s) _ w e)
@@ -95,20 +95,20 @@ number-zeros zero = refl
 number-zeros (suc n) = let r = number-zeros n in omega (arith, r)
 
 -- what was found, with flags for every place that were clear
-pub record Noted (a : Ask) (s e : List ℕ) (n : ℕ) : Type 0 where
+pub record Flagged (a : Ask) (s e : List ℕ) (n : ℕ) : Type 0 where
   pub places : List ℕ
   pub hits : hitsOf a s ≡ ok places
   pub count : n ≡ length places
   pub listed : placesIn 0 262144 (number e) ≡ places
 
 pub noted : (a : Ask) (s d e : List ℕ) (r : Counted) (n : ℕ) → Meets (hitsOf a s) 0 262144 r d e → r ≡ Hits n → number d ≡ 0 → length d ≡ 32768
-    → Noted a s e n
+    → Flagged a s e n
 noted a s d e r n m q z k =
     let h = meets-hits r m n q in
     let x = m .flags (h .0) (h .1) .added (omega (arith, k)) (omega (arith, z)) in
     record { places = h .0; hits = h .1; count = h .2; listed = hits-back a s (h .0) (h .1) (number e) (omega (arith, x, z)) }
 
-module _ (a : Ask) (s e : List ℕ) (n : ℕ) (w : Noted a s e n) (out : List ℕ) where
+module _ (a : Ask) (s e : List ℕ) (n : ℕ) (w : Flagged a s e n) (out : List ℕ) where
   pub search-no-room : length out < n → Fills (searchOf a s (length out)) out (filled.Refused (because table.room)) out
   search-no-room h = fills-refused (because table.room) (search-room a s (length out) (w .places) (w .hits) (omega (arith, h, w .count)))
 

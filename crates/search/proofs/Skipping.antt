@@ -11,10 +11,10 @@ use Rattle.query.specs.declared.ask.Ask.{Ask}
 use Rattle.query.specs.Ask.{opens}
 use Rattle.frame.specs.declared.cursor.Cursor.{Cursor}
 use Rattle.frame.specs.declared.cursor.PageAt.{PageAt}
-use Rattle.frame.specs.Step.{page, end, stepOf}
+use Rattle.frame.specs.Next.{page, end, nextOf}
 use Rattle.frame.specs.Frame.{Page, pageOf}
 use Rattle.answer.proofs.Outcomes.{ok-inj}
-use Rattle.frame.proofs.Steps.{page-not-end, page-inj}
+use Rattle.frame.proofs.Ways.{page-not-end, page-inj}
 use Rattle.frame.proofs.Found.{page-is}
 use Rattle.frame.proofs.Walks.{pages-on, shapes-on}
 use Rattle.frame.specs.Ahead.{Ahead}
@@ -30,10 +30,10 @@ skipping-start a s c ps h = record { coming = ps; left = ps; from-c = h; from-d 
 
 module _ (a : Ask) (s : List ℕ) (c d : Cursor) (k : Skipping a s c d) where
   -- the end, where no page is opened
-  pub skips-end : stepOf s d ≡ ok end → Skips a s c d
+  pub skips-end : nextOf s d ≡ ok end → Skips a s c d
   skips-end e = record { skipping = k; opened = λ p h. absurd (page-not-end (ok-inj (sym h ∙ e))) }
 
-  module _ (p : PageAt) (here : stepOf s d ≡ ok (page p)) where
+  module _ (p : PageAt) (here : nextOf s d ≡ ok (page p)) where
     -- a page that is opened
     pub skips-page : opens a (p .head .v) (patterns (p .head .bounds)) ≡ true → Skips a s c d
     skips-page t = record {

@@ -5,3 +5,4 @@ pub mod Alike
 pub mod Flags
 pub mod Met
 pub mod Skipped
+pub mod Ready

@@ -11,7 +11,7 @@ use Rattle.answer.specs.Outcome.{Out, refused, ok, need, on, inPage}
 use Rattle.answer.specs.Rule.{rule}
 use Rattle.extent.specs.Boxes.{patterns}
 use Rattle.query.specs.declared.ask.Ask.{Ask}
-use Rattle.query.specs.Ask.{sound, hit, opens}
+use Rattle.query.specs.Ask.{goodQuery, hit, opens}
 use Rattle.shape.specs.Outline.{Outline, Shape}
 use Rattle.frame.specs.Frame.{Page, frameOf}
 use Rattle.page.specs.Contents.{contentsOf}
@@ -47,9 +47,9 @@ metOf a k n (p ∷ ps) =
 unfoldable pub metIn : Ask → List ℕ → Out (List ℕ)
 metIn a s = on (frameOf s) (λ f. metOf a 0 0 (f .pages))
 
--- with a sound query
+-- with a good query
 unfoldable pub hitsOf : Ask → List ℕ → Out (List ℕ)
-hitsOf a s = on (rule (sound (a .query)) table.query) (λ _. metIn a s)
+hitsOf a s = on (rule (goodQuery (a .query)) table.query) (λ _. metIn a s)
 
 -- the search, with so much room
 unfoldable pub searchOf : Ask → List ℕ → ℕ → Out (List ℕ)

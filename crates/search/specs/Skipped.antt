@@ -9,7 +9,7 @@ use Rattle.query.specs.declared.ask.Ask.{Ask}
 use Rattle.query.specs.Ask.{opens}
 use Rattle.frame.specs.declared.cursor.Cursor.{Cursor}
 use Rattle.frame.specs.declared.cursor.PageAt.{PageAt}
-use Rattle.frame.specs.Step.{page, stepOf}
+use Rattle.frame.specs.Next.{page, nextOf}
 use Rattle.frame.specs.Frame.{Page}
 use Rattle.frame.specs.Ahead.{Ahead}
 use Rattle.search.specs.Search.{metOf}
@@ -27,4 +27,4 @@ pub record Skipping (a : Ask) (s : List ℕ) (c d : Cursor) : Type 0 where
 -- and if a page stands at d, it is opened
 pub record Skips (a : Ask) (s : List ℕ) (c d : Cursor) : Type 0 where
   pub skipping : Skipping a s c d
-  pub opened : (p : PageAt) → stepOf s d ≡ ok (page p) → opens a (p .head .v) (patterns (p .head .bounds)) ≡ true
+  pub opened : (p : PageAt) → nextOf s d ≡ ok (page p) → opens a (p .head .v) (patterns (p .head .bounds)) ≡ true

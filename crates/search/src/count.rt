@@ -1,7 +1,7 @@
 // The count-only search.
 ghost use mathlib.Core.Path.{_≡_};
 ghost use mathlib.Core.Bool.{true};
-ghost use Rattle.query.specs.Ask.{sound};
+ghost use Rattle.query.specs.Ask.{goodQuery};
 ghost use Rattle.search.specs.Search.{countOf, saidCount};
 use crate::found::hits_of;
 use answer::Refusal;
@@ -15,9 +15,9 @@ pub enum Counted {
     Refused(Refusal),
 }
 
-// How many shapes of a file a sound query hits, any bytes. No flags are kept.
-pub fn count_sound(a: Ask, s: &[u8]) -> Counted
-    requires { ⌜ sound (a .query) ≡ true ⌝ }
+// How many shapes of a file a good query hits, any bytes. No flags are kept.
+pub fn count_good(a: Ask, s: &[u8]) -> Counted
+    requires { ⌜ goodQuery (a .query) ≡ true ⌝ }
     ensures { λ r. ⌜ saidCount r ≡ countOf a (now (s .entry)) ⌝ }
 {
     let mut none = [0u8; 0];
@@ -31,5 +31,5 @@ pub fn count(a: Ask, s: &[u8]) -> Counted
     if let Verdict::Refused(w) = judge(a) {
         return Counted::Refused(w);
     }
-    count_sound(a, s)
+    count_good(a, s)
 }

@@ -4,6 +4,7 @@ ghost use Prim.Native.Nat.{_+_, _^_, _≤_, _<_};
 ghost use lib.Dec.{eqb};
 ghost use lib.ListN.{length};
 ghost use lib.Seq.{sets};
+ghost use Rattle.answer.specs.Limits.{mostShapes};
 ghost use Rattle.le.specs.Number.{number};
 ghost use Rattle.search.specs.Flags.{placesIn, onlyIf, onlyPlace, Adds};
 use le::bits::window;
@@ -48,7 +49,7 @@ fn list_bit(bit: u64, place: usize, out: &mut [u32], at: usize) -> usize
 
 // Lists the places of a word's bits, the lowest of which is that of place n: where the next one goes.
 fn list_word(x: u64, n: usize, out: &mut [u32], at: usize) -> usize
-    requires { ⌜ (n + 64 ≤ 262144) × (at + length (placesIn n 64 x) ≤ length (now out)) ⌝ }
+    requires { ⌜ (n + 64 ≤ mostShapes) × (at + length (placesIn n 64 x) ≤ length (now out)) ⌝ }
     ensures { λ r. ⌜ (r ≡ at + length (placesIn n 64 x)) × (now (out .exit) ≡ sets (now (out .entry)) at (placesIn n 64 x)) ⌝ }
 {
     let mut y = x;
@@ -64,8 +65,8 @@ fn list_word(x: u64, n: usize, out: &mut [u32], at: usize) -> usize
 
 // Lists the places of flags, of which there are n.
 pub(crate) fn list_flags(flags: &[u8], n: usize, out: &mut [u32])
-    requires { ⌜ (n ≡ length (placesIn 0 262144 (number (now flags)))) × (n ≤ length (now out)) ⌝ }
-    ensures { λ r. ⌜ now (out .exit) ≡ sets (now (out .entry)) 0 (placesIn 0 262144 (number (now (flags .entry)))) ⌝ }
+    requires { ⌜ (n ≡ length (placesIn 0 mostShapes (number (now flags)))) × (n ≤ length (now out)) ⌝ }
+    ensures { λ r. ⌜ now (out .exit) ≡ sets (now (out .entry)) 0 (placesIn 0 mostShapes (number (now (flags .entry)))) ⌝ }
 {
     let mut k: usize = 0;
     let mut place: usize = 0;

@@ -3,11 +3,10 @@ ghost use mathlib.Core.Path.{_≡_};
 ghost use mathlib.Core.Bool.{true};
 ghost use Prim.Native.Nat.{_+_, _≤_};
 ghost use lib.ListN.{length};
-ghost use Rattle.extent.specs.Rank.{allFinite};
-ghost use Rattle.types.specs.Parts.{partsHold};
-ghost use Rattle.query.specs.Ask.{sound};
-ghost use Rattle.shape.specs.Outline.{outlinesOf};
+ghost use Rattle.answer.specs.Limits.{mostShapes};
+ghost use Rattle.query.specs.Ask.{goodQuery};
 ghost use Rattle.search.specs.Met.{Noted};
+ghost use Rattle.search.specs.Ready.{Askable};
 use crate::flags::note;
 use query::ask::Ask;
 use query::ask::hit;
@@ -24,8 +23,10 @@ pub(crate) fn shapes_hit(
     ys: &[u64],
     flags: &mut [u8],
 ) -> usize
-    requires { ⌜ (sound (a .query) ≡ true) × (n + length (now types) ≤ 262144) × (partsHold (now types) (now counts) (now lens) (length (now xs)) ≡ true) × (length (now ys) ≡ length (now xs)) × (allFinite (now xs) ≡ true) × (allFinite (now ys) ≡ true) ⌝ }
-    ensures { λ r. ⌜ Noted a n (outlinesOf (now (types .entry)) (now (counts .entry)) (now (lens .entry)) (now (xs .entry)) (now (ys .entry))) (n + length (now (types .entry))) r (now (flags .entry)) (now (flags .exit)) ⌝ }
+    requires { ⌜ goodQuery (a .query) ≡ true ⌝ }
+    requires { ⌜ n + length (now types) ≤ mostShapes ⌝ }
+    requires { ⌜ Askable (now types) (now counts) (now lens) (now xs) (now ys) ⌝ }
+    ensures { λ r. ⌜ Noted a n (types .entry) (counts .entry) (lens .entry) (xs .entry) (ys .entry) r (now (flags .entry)) (now (flags .exit)) ⌝ }
 {
     let mut i: usize = 0;
     let mut k: usize = 0;

@@ -2,10 +2,11 @@
 ghost use mathlib.Core.Path.{_≡_};
 ghost use mathlib.Core.Bool.{true};
 ghost use mathlib.Core.List.{List};
+ghost use Rattle.answer.specs.Limits.{mostShapes};
 ghost use Rattle.answer.specs.Outcome.{ok};
-ghost use Rattle.query.specs.Ask.{sound};
+ghost use Rattle.query.specs.Ask.{goodQuery};
 ghost use Rattle.frame.specs.declared.cursor.PageAt.{PageAt};
-ghost use Rattle.frame.specs.Step.{page, stepOf};
+ghost use Rattle.frame.specs.Next.{page, nextOf};
 ghost use Rattle.frame.specs.Frame.{Page};
 ghost use Rattle.frame.specs.Ahead.{Within, Ahead, Begun};
 ghost use Rattle.page.specs.Opened.{Scratch};
@@ -33,7 +34,10 @@ fn page_hits(
     ys: &mut [u64],
     flags: &mut [u8],
 ) -> Counted
-    requires { ⌜ (sound (a .query) ≡ true) × Within c × ((p : PageAt) × (stepOf (now s) c ≡ ok (page p))) × Scratch (now counts) (now lens) (now xs) (now ys) ⌝ }
+    requires { ⌜ goodQuery (a .query) ≡ true ⌝ }
+    requires { ⌜ Within c ⌝ }
+    requires { ⌜ ((p : PageAt) × (nextOf (now s) c ≡ ok (page p))) ⌝ }
+    requires { ⌜ Scratch (now counts) (now lens) (now xs) (now ys) ⌝ }
     ensures { λ r. ⌜ PageMeets a (now (s .entry)) c r (now (flags .entry)) (now (flags .exit)) ⌝ }
 {
     match open(s, c, counts, lens, xs, ys) {
@@ -60,7 +64,7 @@ fn page_hits(
 
 // The next page that the query meets, from a cursor on, or the end. The others are passed by at a glance.
 fn next_met(a: Ask, s: &[u8], from: Cursor) -> Cursor
-    requires { ⌜ (sound (a .query) ≡ true) × ((ps : List Page) × Ahead (now s) from ps) ⌝ }
+    requires { ⌜ (goodQuery (a .query) ≡ true) × ((ps : List Page) × Ahead (now s) from ps) ⌝ }
     ensures { λ r. ⌜ Skips a (now (s .entry)) from r ⌝ }
 {
     let mut c = from;
@@ -85,8 +89,8 @@ pub(crate) fn walk_hits(
     ys: &mut [u64],
     flags: &mut [u8],
 ) -> Counted
-    requires { ⌜ (sound (a .query) ≡ true) × Begun (now s) from × Scratch (now counts) (now lens) (now xs) (now ys) ⌝ }
-    ensures { λ r. ⌜ Meets (metIn a (now (s .entry))) 0 262144 r (now (flags .entry)) (now (flags .exit)) ⌝ }
+    requires { ⌜ (goodQuery (a .query) ≡ true) × Begun (now s) from × Scratch (now counts) (now lens) (now xs) (now ys) ⌝ }
+    ensures { λ r. ⌜ Meets (metIn a (now (s .entry))) 0 mostShapes r (now (flags .entry)) (now (flags .exit)) ⌝ }
 {
     let mut c = next_met(a, s, from);
     let mut found: usize = 0;

@@ -3,7 +3,7 @@ ghost use mathlib.Core.Path.{_≡_};
 ghost use mathlib.Core.Bool.{true};
 ghost use lib.ListN.{length};
 ghost use Rattle.answer.specs.Outcome.{Fills};
-ghost use Rattle.query.specs.Ask.{sound};
+ghost use Rattle.query.specs.Ask.{goodQuery};
 ghost use Rattle.search.specs.Search.{searchOf};
 use crate::count::Counted;
 use crate::flags::list_flags;
@@ -15,10 +15,10 @@ use answer::table::ROOM;
 use query::ask::Ask;
 use query::ask::judge;
 
-// Lists the places of what a sound query hits in a file, any bytes. One bit for each place of a file is kept, so that each page is decoded once and
+// Lists the places of what a good query hits in a file, any bytes. One bit for each place of a file is kept, so that each page is decoded once and
 // nothing is written before the last refusal is past.
-pub fn search_sound(a: Ask, s: &[u8], out: &mut [u32]) -> Filled
-    requires { ⌜ sound (a .query) ≡ true ⌝ }
+pub fn search_good(a: Ask, s: &[u8], out: &mut [u32]) -> Filled
+    requires { ⌜ goodQuery (a .query) ≡ true ⌝ }
     ensures { λ r. ⌜ Fills (searchOf a (now (s .entry)) (length (now (out .entry)))) (now (out .entry)) r (now (out .exit)) ⌝ }
 {
     let mut flags = [0u8; 32768];
@@ -41,5 +41,5 @@ pub fn search(a: Ask, s: &[u8], out: &mut [u32]) -> Filled
     if let Verdict::Refused(w) = judge(a) {
         return Filled::Refused(w);
     }
-    search_sound(a, s, out)
+    search_good(a, s, out)
 }

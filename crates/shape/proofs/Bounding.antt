@@ -13,7 +13,8 @@ use Rattle.answer.specs.declared.Refusal.{Refusal}
 use Rattle.answer.specs.declared.Verdict.the-variants.{Holds, Refused}
 use Rattle.answer.proofs.Rules.{rule-holds, rule-fails, judged-holds, judged-refused}
 use Rattle.extent.specs.Rank.{allFinite}
-use Rattle.extent.specs.Boxes.{Bounds, patterns, sameBox, boxOf}
+use Rattle.extent.specs.declared.bounds.Bounds.{Bounds}
+use Rattle.extent.specs.Boxes.{patterns, sameBox, boxOf}
 use Rattle.extent.specs.Forms.{ValueBox, ValueForm}
 use Rattle.extent.specs.declared.boxes.Box.{Box}
 use Rattle.extent.specs.declared.boxes.Form.{Form}

@@ -4,7 +4,7 @@ use mathlib.Core.Path.{_≡_, refl, sym, ap, _∙_}
 use mathlib.Core.Bool.{Bool, true, false, not}
 use mathlib.Core.List.{List, [], _∷_, _++_}
 use Rattle.answer.proofs.Both.{both}
-use Rattle.answer.specs.Every.{allOf}
+use Rattle.answer.specs.All.{allOf}
 use Rattle.answer.proofs.Alls.{all-none, all-cons}
 use Rattle.shape.specs.Outline.{Part}
 use Rattle.shape.specs.Rules.{firstClockwise}

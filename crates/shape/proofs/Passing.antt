@@ -7,7 +7,7 @@ use Rattle.answer.specs.Table as table
 use Rattle.answer.specs.Outcome.{ok}
 use Rattle.answer.proofs.Rules.{rule-ok}
 use Rattle.answer.proofs.Both.{both-l, both-r}
-use Rattle.answer.specs.Every.{allOf}
+use Rattle.answer.specs.All.{allOf}
 use Rattle.extent.specs.Rank.{allFinite}
 use Rattle.shape.specs.Outline.{Outline}
 use Rattle.shape.specs.Rules.{finiteRule, ringsClosed, ringRule, onGridShape, gridRule, turnsHold, turnRule}

@@ -11,7 +11,7 @@ use Rattle.answer.specs.declared.Verdict.the-variants.{Holds, Refused}
 use Rattle.answer.proofs.Outcomes.{on-ok}
 use Rattle.answer.proofs.Rules.{judged-holds, judged-refused}
 use Rattle.extent.specs.Rank.{allFinite}
-use Rattle.answer.specs.Every.{allOf}
+use Rattle.answer.specs.All.{allOf}
 use Rattle.shape.specs.Outline.{Outline}
 use Rattle.shape.specs.Rules.{finiteRule, ringRule, gridRule, turnRule, onGridShape, ringRules, outlineRules}
 use Rattle.shape.proofs.Passing.{finite-passed, grid-passed}

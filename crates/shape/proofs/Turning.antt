@@ -6,7 +6,7 @@ use Prim.Native.Nat.{ℕ, _-_, _≤_, _<_}
 use native.Mathlib.Omega.{arith}
 use lib.IntN.{ℤ, pos, negsuc}
 use lib.ListN.{length, getD, take, drop, length-drop}
-use Rattle.answer.specs.Every.{allOf}
+use Rattle.answer.specs.All.{allOf}
 use Rattle.answer.proofs.Both.{first-fails, then}
 use Rattle.answer.proofs.Alls.{all-none, all-cons, all-drop}
 use Rattle.types.proofs.Sums.{total-cons}

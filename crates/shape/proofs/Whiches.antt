@@ -10,8 +10,8 @@ use lib.ListN.{length, getD, List·getD-eq-default, take, drop, length-take, len
 use Rattle.answer.specs.Table as table
 use Rattle.answer.specs.Rule.{rule}
 use Rattle.answer.proofs.Both.{both, both-l, both-r}
-use Rattle.answer.specs.Every.{allOf}
-use Rattle.types.specs.Types.{empty, typeRows, typeRow}
+use Rattle.answer.specs.All.{allOf}
+use Rattle.types.specs.Types.{multiPolygon, lastType, emptyRow, typeRows, typeRow}
 use Rattle.shape.specs.declared.which.Which.{Which}
 use Rattle.shape.specs.declared.which.Which.the-variants.{Ring, Grid, Turn}
 use Rattle.shape.specs.Outline.{Outline, vertexCount, outlineWith, outlinesOf}
@@ -66,22 +66,22 @@ ready-turns (t ∷ ts) (c ∷ cs) lens xs ys h e =
 
 -- ---- types of which a rule says nothing
 
-pub spares-ring : (w : Which) (t : ℕ) → w ≡ Ring → spares w t ≡ not (typeRow t .closed)
+pub spares-ring : (w : Which) (t : ℕ) → w ≡ Ring → spares w t ≡ not (typeRow t .rings)
 unfolding spares
 spares-ring w t e = ap (λ (v : Which). spares v t) e
 
-pub spares-grid : (w : Which) (t : ℕ) → w ≡ Grid → spares w t ≡ not (eqb t 6)
+pub spares-grid : (w : Which) (t : ℕ) → w ≡ Grid → spares w t ≡ not (eqb t multiPolygon)
 unfolding spares
 spares-grid w t e = ap (λ (v : Which). spares v t) e
 
-pub spares-turn : (w : Which) (t : ℕ) → w ≡ Turn → spares w t ≡ not (eqb t 6)
+pub spares-turn : (w : Which) (t : ℕ) → w ≡ Turn → spares w t ≡ not (eqb t multiPolygon)
 unfolding spares
 spares-turn w t e = ap (λ (v : Which). spares v t) e
 
--- a type over 6 has no row, and none that is closed
-pub open-over : (t : ℕ) → 6 < t → true ≡ not (typeRow t .closed)
+-- a type over the last has no row, and so no rings
+pub open-over : (t : ℕ) → lastType < t → true ≡ not (typeRow t .rings)
 unfolding typeRow
-open-over t h = let e : getD typeRows t empty ≡ empty = List·getD-eq-default typeRows empty h in rw e
+open-over t h = let e : getD typeRows t emptyRow ≡ emptyRow = List·getD-eq-default typeRows emptyRow h in rw e
 
 -- a shape of such a type passes
 pub spared : (w : Which) (o : Outline) → spares w (o .kind) ≡ true → testOf w o ≡ true

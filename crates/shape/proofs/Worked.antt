@@ -10,7 +10,7 @@ use Rattle.answer.specs.Table as table
 use Rattle.answer.specs.Refusal.{because}
 use Rattle.answer.specs.Outcome.{refused, ok, need}
 use Rattle.answer.specs.Rule.{rule}
-use Rattle.answer.specs.Every.{allOf}
+use Rattle.answer.specs.All.{allOf}
 use Rattle.types.specs.Types.{typeRow}
 use Rattle.types.specs.Parts.{total}
 use Rattle.grid.specs.Grid.{onGrid, wholeOf}

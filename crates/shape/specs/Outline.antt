@@ -3,6 +3,7 @@
 use Prim.Native.Nat.{ℕ}
 use mathlib.Core.List.{List, [], _∷_}
 use lib.ListN.{take, drop}
+use denote.Ref.{RefT, now}
 use Rattle.types.specs.Parts.{total}
 
 -- a shape without its register: its type, its part lengths, and the patterns of its vertices
@@ -41,6 +42,10 @@ outlinesOf (t ∷ ts) [] lens xs ys = []
 outlinesOf (t ∷ ts) (c ∷ cs) lens xs ys =
     outlineWith t (take c lens) (take (vertexCount c lens) xs) (take (vertexCount c lens) ys)
     ∷ outlinesOf ts cs (drop c lens) (drop (vertexCount c lens) xs) (drop (vertexCount c lens) ys)
+
+-- the same, by the five slices
+abbrev pub outlinesIn : RefT (List ℕ) → RefT (List ℕ) → RefT (List ℕ) → RefT (List ℕ) → RefT (List ℕ) → List Outline
+outlinesIn types counts lens xs ys = outlinesOf (now types) (now counts) (now lens) (now xs) (now ys)
 
 -- by part length, x and y: as many vertices as the first length says are the first part's
 unfoldable pub partsOf : List ℕ → List ℕ → List ℕ → List Part

@@ -1,7 +1,7 @@
 -- The polygons of a MultiPolygon: each clockwise ring opens a new polygon, and the others are its holes. Assumes nothing.
 use mathlib.Core.Bool.{Bool, true, false, _&&_, not}
 use mathlib.Core.List.{List, [], _∷_, _++_}
-use Rattle.answer.specs.Every.{allOf}
+use Rattle.answer.specs.All.{allOf}
 use Rattle.grid.specs.Turn.{clockwise}
 use Rattle.shape.specs.Outline.{Part}
 use Rattle.shape.specs.Rules.{ringTurn}

@@ -5,16 +5,18 @@ use mathlib.Core.List.{List, [], _∷_}
 use lib.Dec.{ltb, eqb}
 use lib.IntN.{ℤ}
 use lib.ListN.{length, getD}
+use denote.Ref.{RefT, now}
 use Rattle.answer.specs.Table as table
 use Rattle.answer.specs.Outcome.{Out, on}
 use Rattle.answer.specs.Rule.{rule}
-use Rattle.answer.specs.Every.{allOf}
-use Rattle.types.specs.Types.{typeRow}
+use Rattle.answer.specs.All.{allOf}
+use Rattle.types.specs.Types.{multiPolygon, typeRow}
 use Rattle.extent.specs.Rank.{allFinite}
-use Rattle.extent.specs.Boxes.{Bounds, boxOf, sameBox}
+use Rattle.extent.specs.declared.bounds.Bounds.{Bounds}
+use Rattle.extent.specs.Boxes.{boxOf, sameBox}
 use Rattle.grid.specs.Grid.{allOnGrid}
 use Rattle.grid.specs.Turn.{turnOf, clockwise, zeroTurn}
-use Rattle.shape.specs.Outline.{Outline, Part, partsOf}
+use Rattle.shape.specs.Outline.{Outline, Part, outlinesIn, partsOf}
 
 -- the parts of a shape
 abbrev pub ownParts : Outline → List Part
@@ -36,9 +38,9 @@ endsMeet l = eqb (getD l 0 0) (getD l (length l - 1) 0)
 unfoldable pub closedRing : Part → Bool
 closedRing p = endsMeet (p .xs) && endsMeet (p .ys)
 
--- if the type's row is closed, all parts are
+-- if the type's parts are rings, all of them are closed
 unfoldable pub ringsClosed : Outline → Bool
-ringsClosed o = not (typeRow (o .kind) .closed) || allOf closedRing (ownParts o)
+ringsClosed o = not (typeRow (o .kind) .rings) || allOf closedRing (ownParts o)
 
 -- 13, over the shapes of the page
 unfoldable pub ringRule : List Outline → Out (Unit {0})
@@ -46,9 +48,9 @@ ringRule os = rule (allOf ringsClosed os) table.ring
 
 -- ---- MultiPolygon only
 
--- whether a shape is one: type 6
+-- whether a shape is one
 abbrev pub isMultiPolygon : Outline → Bool
-isMultiPolygon o = eqb (o .kind) 6
+isMultiPolygon o = eqb (o .kind) multiPolygon
 
 -- ---- 14: every coordinate is on grid
 
@@ -106,6 +108,10 @@ outlineRules os xs ys =
     on (ringRule os) (λ _.
     on (gridRule os) (λ _.
     turnRule os)))
+
+-- the same of a page's shapes, by the five slices
+abbrev pub outlineRulesIn : RefT (List ℕ) → RefT (List ℕ) → RefT (List ℕ) → RefT (List ℕ) → RefT (List ℕ) → Out (Unit {0})
+outlineRulesIn types counts lens xs ys = outlineRules (outlinesIn types counts lens xs ys) (now xs) (now ys)
 
 -- those behind 12, for inner steps; no service speaks of it
 unfoldable pub ringRules : List Outline → Out (Unit {0})

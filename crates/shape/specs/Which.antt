@@ -3,7 +3,8 @@ use Prim.Native.Nat.{ℕ}
 use mathlib.Core.Bool.{Bool, true, _&&_, not}
 use lib.Dec.{leb, eqb}
 use lib.ListN.{length}
-use Rattle.types.specs.Types.{typeRow}
+use Rattle.answer.specs.Limits.{mostVertices}
+use Rattle.types.specs.Types.{multiPolygon, typeRow}
 use Rattle.shape.specs.declared.which.Which.{Which}
 use Rattle.shape.specs.declared.which.Which.the-variants.{Ring, Grid, Turn}
 use Rattle.shape.specs.Outline.{Outline}
@@ -19,10 +20,10 @@ testOf Turn o = turnsHold o
 unfoldable pub readyFor : Which → Outline → Bool
 readyFor Ring o = true
 readyFor Grid o = true
-readyFor Turn o = onGridShape o && leb (length (o .xs)) 2048
+readyFor Turn o = onGridShape o && leb (length (o .xs)) mostVertices
 
--- of which types a rule says nothing: of open ones; of all but the MultiPolygon
+-- of which types a rule says nothing: of those with no rings; of all but the MultiPolygon
 unfoldable pub spares : Which → ℕ → Bool
-spares Ring t = not (typeRow t .closed)
-spares Grid t = not (eqb t 6)
-spares Turn t = not (eqb t 6)
+spares Ring t = not (typeRow t .rings)
+spares Grid t = not (eqb t multiPolygon)
+spares Turn t = not (eqb t multiPolygon)

@@ -1,12 +1,9 @@
 // Rules 12 to 15 in order: for a page's shapes, and for any outlines.
 ghost use mathlib.Core.Path.{_≡_};
-ghost use mathlib.Core.Bool.{true};
-ghost use Prim.Native.Nat.{_≤_};
-ghost use lib.ListN.{length};
 ghost use Rattle.answer.specs.Rule.{judged};
-ghost use Rattle.types.specs.Parts.{partsHold};
-ghost use Rattle.shape.specs.Outline.{outlinesOf};
-ghost use Rattle.shape.specs.Rules.{ringRules, outlineRules};
+ghost use Rattle.shape.specs.Outline.{outlinesIn};
+ghost use Rattle.shape.specs.Ready.{Parted};
+ghost use Rattle.shape.specs.Rules.{ringRules, outlineRulesIn};
 use crate::rules::finite_rule;
 use crate::rules::grid_rule;
 use crate::rules::ring_rule;
@@ -15,8 +12,8 @@ use answer::Verdict;
 
 // 13, 14, 15, each over the page before the next. Rule 11 has passed.
 pub fn ring_rules(types: &[u8], counts: &[u16], lens: &[u16], xs: &[u64], ys: &[u64]) -> Verdict
-    requires { ⌜ (partsHold (now types) (now counts) (now lens) (length (now xs)) ≡ true) × (length (now ys) ≡ length (now xs)) × (length (now xs) ≤ 2048) ⌝ }
-    ensures { λ r. ⌜ judged r ≡ ringRules (outlinesOf (now (types .entry)) (now (counts .entry)) (now (lens .entry)) (now (xs .entry)) (now (ys .entry))) ⌝ }
+    requires { ⌜ Parted (now types) (now counts) (now lens) (now xs) (now ys) ⌝ }
+    ensures { λ r. ⌜ judged r ≡ ringRules (outlinesIn (types .entry) (counts .entry) (lens .entry) (xs .entry) (ys .entry)) ⌝ }
 {
     if let Verdict::Refused(w) = ring_rule(types, counts, lens, xs, ys) {
         return Verdict::Refused(w);
@@ -29,8 +26,8 @@ pub fn ring_rules(types: &[u8], counts: &[u16], lens: &[u16], xs: &[u64], ys: &[
 
 // 12 and then those. Rule 11 has passed.
 pub fn outline_rules(types: &[u8], counts: &[u16], lens: &[u16], xs: &[u64], ys: &[u64]) -> Verdict
-    requires { ⌜ (partsHold (now types) (now counts) (now lens) (length (now xs)) ≡ true) × (length (now ys) ≡ length (now xs)) × (length (now xs) ≤ 2048) ⌝ }
-    ensures { λ r. ⌜ judged r ≡ outlineRules (outlinesOf (now (types .entry)) (now (counts .entry)) (now (lens .entry)) (now (xs .entry)) (now (ys .entry))) (now (xs .entry)) (now (ys .entry)) ⌝ }
+    requires { ⌜ Parted (now types) (now counts) (now lens) (now xs) (now ys) ⌝ }
+    ensures { λ r. ⌜ judged r ≡ outlineRulesIn (types .entry) (counts .entry) (lens .entry) (xs .entry) (ys .entry) ⌝ }
 {
     if let Verdict::Refused(w) = finite_rule(xs, ys) {
         return Verdict::Refused(w);

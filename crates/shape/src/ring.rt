@@ -2,7 +2,8 @@
 ghost use mathlib.Core.Path.{_≡_};
 ghost use Prim.Native.Nat.{_≤_};
 ghost use lib.ListN.{length};
-ghost use Rattle.answer.specs.Every.{allOf};
+ghost use Rattle.answer.specs.All.{allOf};
+ghost use Rattle.types.specs.Types.{lastType};
 ghost use Rattle.shape.specs.Outline.{partWith, partsOf, outlineWith};
 ghost use Rattle.shape.specs.Ready.{Cut};
 ghost use Rattle.shape.specs.Rules.{closedRing, ringsClosed};
@@ -41,13 +42,13 @@ fn all_closed(lens: &[u16], xs: &[u64], ys: &[u64]) -> bool
     true
 }
 
-// Whether a shape's parts are closed, if those of its type are.
+// Whether a shape's parts are closed, if those of its type are rings.
 pub(crate) fn rings_closed(t: u8, lens: &[u16], xs: &[u64], ys: &[u64]) -> bool
-    requires { ⌜ (t ≤ 6) × Cut (now lens) (now xs) (now ys) ⌝ }
+    requires { ⌜ (t ≤ lastType) × Cut (now lens) (now xs) (now ys) ⌝ }
     ensures { λ r. ⌜ r ≡ ringsClosed (outlineWith t (now (lens .entry)) (now (xs .entry)) (now (ys .entry))) ⌝ }
 {
     let row = row_of(t);
-    if row.closed {
+    if row.rings {
         return all_closed(lens, xs, ys);
     }
     true

@@ -1,15 +1,14 @@
 // Rules 12 to 16 of a page's contents, over its lists: types, part counts, part lengths, and the patterns of its vertices.
 ghost use mathlib.Core.Path.{_≡_};
 ghost use mathlib.Core.Bool.{true, not, _||_};
-ghost use Prim.Native.Nat.{_≤_};
 ghost use lib.Dec.{ltb};
 ghost use lib.ListN.{length};
 ghost use Rattle.answer.specs.Table as table;
 ghost use Rattle.answer.specs.Rule.{rule, judged};
-ghost use Rattle.answer.specs.Every.{allOf};
-ghost use Rattle.types.specs.Parts.{partsHold};
+ghost use Rattle.answer.specs.All.{allOf};
 ghost use Rattle.extent.specs.Boxes.{patterns, FiniteBox, sameBox};
-ghost use Rattle.shape.specs.Outline.{outlinesOf};
+ghost use Rattle.shape.specs.Outline.{outlinesIn};
+ghost use Rattle.shape.specs.Ready.{Parted};
 ghost use Rattle.shape.specs.Rules.{finiteRule, ringRule, onGridShape, gridRule, turnRule};
 ghost use Rattle.shape.specs.Which.{testOf, readyFor, spares};
 use crate::which::Which;
@@ -41,8 +40,9 @@ pub fn finite_rule(xs: &[u64], ys: &[u64]) -> Verdict
 
 // Whether each shape passes one of the rules that go shape by shape: a shape's parts, and its vertices, are the first of those left.
 fn each_shape(w: Which, types: &[u8], counts: &[u16], lens: &[u16], xs: &[u64], ys: &[u64]) -> bool
-    requires { ⌜ (partsHold (now types) (now counts) (now lens) (length (now xs)) ≡ true) × (length (now ys) ≡ length (now xs)) × (allOf (readyFor w) (outlinesOf (now types) (now counts) (now lens) (now xs) (now ys)) ≡ true) ⌝ }
-    ensures { λ r. ⌜ r ≡ allOf (testOf w) (outlinesOf (now (types .entry)) (now (counts .entry)) (now (lens .entry)) (now (xs .entry)) (now (ys .entry))) ⌝ }
+    requires { ⌜ Parted (now types) (now counts) (now lens) (now xs) (now ys) ⌝ }
+    requires { ⌜ allOf (readyFor w) (outlinesIn types counts lens xs ys) ≡ true ⌝ }
+    ensures { λ r. ⌜ r ≡ allOf (testOf w) (outlinesIn (types .entry) (counts .entry) (lens .entry) (xs .entry) (ys .entry)) ⌝ }
 {
     let mut i: usize = 0;
     let mut k: usize = 0;
@@ -76,8 +76,9 @@ fn spares_all(w: Which, types: &[u8]) -> bool
 
 // Whether each shape passes a rule: with no walk over the shapes where it says nothing of their types.
 fn shapes_hold(w: Which, types: &[u8], counts: &[u16], lens: &[u16], xs: &[u64], ys: &[u64]) -> bool
-    requires { ⌜ (partsHold (now types) (now counts) (now lens) (length (now xs)) ≡ true) × (length (now ys) ≡ length (now xs)) × (allOf (readyFor w) (outlinesOf (now types) (now counts) (now lens) (now xs) (now ys)) ≡ true) ⌝ }
-    ensures { λ r. ⌜ r ≡ allOf (testOf w) (outlinesOf (now (types .entry)) (now (counts .entry)) (now (lens .entry)) (now (xs .entry)) (now (ys .entry))) ⌝ }
+    requires { ⌜ Parted (now types) (now counts) (now lens) (now xs) (now ys) ⌝ }
+    requires { ⌜ allOf (readyFor w) (outlinesIn types counts lens xs ys) ≡ true ⌝ }
+    ensures { λ r. ⌜ r ≡ allOf (testOf w) (outlinesIn (types .entry) (counts .entry) (lens .entry) (xs .entry) (ys .entry)) ⌝ }
 {
     if spares_all(w, types) {
         return true;
@@ -87,24 +88,25 @@ fn shapes_hold(w: Which, types: &[u8], counts: &[u16], lens: &[u16], xs: &[u64],
 
 // 13: rings are closed. Rule 11 has passed.
 pub fn ring_rule(types: &[u8], counts: &[u16], lens: &[u16], xs: &[u64], ys: &[u64]) -> Verdict
-    requires { ⌜ (partsHold (now types) (now counts) (now lens) (length (now xs)) ≡ true) × (length (now ys) ≡ length (now xs)) ⌝ }
-    ensures { λ r. ⌜ judged r ≡ ringRule (outlinesOf (now (types .entry)) (now (counts .entry)) (now (lens .entry)) (now (xs .entry)) (now (ys .entry))) ⌝ }
+    requires { ⌜ Parted (now types) (now counts) (now lens) (now xs) (now ys) ⌝ }
+    ensures { λ r. ⌜ judged r ≡ ringRule (outlinesIn (types .entry) (counts .entry) (lens .entry) (xs .entry) (ys .entry)) ⌝ }
 {
     Verdict::of(shapes_hold(Which::Ring, types, counts, lens, xs, ys), RING)
 }
 
 // 14: each MultiPolygon is on grid. Rule 11 has passed.
 pub fn grid_rule(types: &[u8], counts: &[u16], lens: &[u16], xs: &[u64], ys: &[u64]) -> Verdict
-    requires { ⌜ (partsHold (now types) (now counts) (now lens) (length (now xs)) ≡ true) × (length (now ys) ≡ length (now xs)) ⌝ }
-    ensures { λ r. ⌜ judged r ≡ gridRule (outlinesOf (now (types .entry)) (now (counts .entry)) (now (lens .entry)) (now (xs .entry)) (now (ys .entry))) ⌝ }
+    requires { ⌜ Parted (now types) (now counts) (now lens) (now xs) (now ys) ⌝ }
+    ensures { λ r. ⌜ judged r ≡ gridRule (outlinesIn (types .entry) (counts .entry) (lens .entry) (xs .entry) (ys .entry)) ⌝ }
 {
     Verdict::of(shapes_hold(Which::Grid, types, counts, lens, xs, ys), GRID)
 }
 
 // 15: no ring of a MultiPolygon has turn zero, and the first is clockwise. Rules 11 and 14 have passed.
 pub fn turn_rule(types: &[u8], counts: &[u16], lens: &[u16], xs: &[u64], ys: &[u64]) -> Verdict
-    requires { ⌜ (partsHold (now types) (now counts) (now lens) (length (now xs)) ≡ true) × (length (now ys) ≡ length (now xs)) × (length (now xs) ≤ 2048) × (allOf onGridShape (outlinesOf (now types) (now counts) (now lens) (now xs) (now ys)) ≡ true) ⌝ }
-    ensures { λ r. ⌜ judged r ≡ turnRule (outlinesOf (now (types .entry)) (now (counts .entry)) (now (lens .entry)) (now (xs .entry)) (now (ys .entry))) ⌝ }
+    requires { ⌜ Parted (now types) (now counts) (now lens) (now xs) (now ys) ⌝ }
+    requires { ⌜ allOf onGridShape (outlinesIn types counts lens xs ys) ≡ true ⌝ }
+    ensures { λ r. ⌜ judged r ≡ turnRule (outlinesIn (types .entry) (counts .entry) (lens .entry) (xs .entry) (ys .entry)) ⌝ }
 {
     Verdict::of(shapes_hold(Which::Turn, types, counts, lens, xs, ys), TURN)
 }

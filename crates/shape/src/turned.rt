@@ -3,13 +3,15 @@ ghost use mathlib.Core.Path.{_≡_};
 ghost use mathlib.Core.Bool.{true};
 ghost use Prim.Native.Nat.{_≤_};
 ghost use lib.ListN.{length};
-ghost use Rattle.answer.specs.Every.{allOf};
+ghost use Rattle.answer.specs.Limits.{mostVertices};
+ghost use Rattle.answer.specs.All.{allOf};
 ghost use Rattle.shape.specs.Outline.{partWith, partsOf, outlineWith};
 ghost use Rattle.shape.specs.Ready.{Cut, Gridded};
 ghost use Rattle.shape.specs.Rules.{onGridShape, turnNotZero, ringsTurned, turnsHold};
 use grid::turning::clockwise;
 use grid::turning::no_turn;
 use grid::turning::turn;
+use types::rows::MULTI_POLYGON;
 
 // Whether a ring's turn is not zero.
 fn ring_turned(xs: &[u64], ys: &[u64]) -> bool
@@ -54,10 +56,12 @@ fn rings_turned(lens: &[u16], xs: &[u64], ys: &[u64]) -> bool
 
 // Whether a shape's rings turn as they must, if it is a MultiPolygon.
 pub(crate) fn turns_hold(t: u8, lens: &[u16], xs: &[u64], ys: &[u64]) -> bool
-    requires { ⌜ Cut (now lens) (now xs) (now ys) × (length (now xs) ≤ 2048) × (onGridShape (outlineWith t (now lens) (now xs) (now ys)) ≡ true) ⌝ }
+    requires { ⌜ Cut (now lens) (now xs) (now ys) ⌝ }
+    requires { ⌜ length (now xs) ≤ mostVertices ⌝ }
+    requires { ⌜ onGridShape (outlineWith t (now lens) (now xs) (now ys)) ≡ true ⌝ }
     ensures { λ r. ⌜ r ≡ turnsHold (outlineWith t (now (lens .entry)) (now (xs .entry)) (now (ys .entry))) ⌝ }
 {
-    if t == 6 {
+    if t == MULTI_POLYGON {
         return rings_turned(lens, xs, ys);
     }
     true

@@ -2,13 +2,14 @@
 ghost use mathlib.Core.Path.{_≡_};
 ghost use mathlib.Core.Bool.{true, not};
 ghost use Prim.Native.Nat.{_≤_};
-ghost use Rattle.types.specs.Types.{typeRow};
+ghost use Rattle.types.specs.Types.{lastType, typeRow};
 ghost use Rattle.shape.specs.Outline.{outlineWith};
 ghost use Rattle.shape.specs.Ready.{Cut};
 ghost use Rattle.shape.specs.Which.{testOf, readyFor, spares};
 use crate::ongrid::on_grid_shape;
 use crate::ring::rings_closed;
 use crate::turned::turns_hold;
+use types::rows::MULTI_POLYGON;
 use types::rows::row_of;
 
 // The rules that go shape by shape.
@@ -20,7 +21,9 @@ pub enum Which {
 
 // Whether a shape passes one of them.
 pub(crate) fn shape_holds(w: Which, t: u8, lens: &[u16], xs: &[u64], ys: &[u64]) -> bool
-    requires { ⌜ (t ≤ 6) × Cut (now lens) (now xs) (now ys) × (readyFor w (outlineWith t (now lens) (now xs) (now ys)) ≡ true) ⌝ }
+    requires { ⌜ t ≤ lastType ⌝ }
+    requires { ⌜ Cut (now lens) (now xs) (now ys) ⌝ }
+    requires { ⌜ readyFor w (outlineWith t (now lens) (now xs) (now ys)) ≡ true ⌝ }
     ensures { λ r. ⌜ r ≡ testOf w (outlineWith t (now (lens .entry)) (now (xs .entry)) (now (ys .entry))) ⌝ }
 {
     match w {
@@ -30,12 +33,12 @@ pub(crate) fn shape_holds(w: Which, t: u8, lens: &[u16], xs: &[u64], ys: &[u64])
     }
 }
 
-// Whether the parts of a type are not closed, any type.
+// Whether the parts of a type are no rings, any type.
 fn open_type(t: u8) -> bool
-    ensures { λ r. ⌜ r ≡ not (typeRow t .closed) ⌝ }
+    ensures { λ r. ⌜ r ≡ not (typeRow t .rings) ⌝ }
 {
-    if t <= 6 {
-        return !row_of(t).closed;
+    if t <= MULTI_POLYGON {
+        return !row_of(t).rings;
     }
     true
 }
@@ -46,7 +49,7 @@ pub fn spares(w: Which, t: u8) -> bool
 {
     match w {
         Which::Ring => open_type(t),
-        Which::Grid => t != 6,
-        Which::Turn => t != 6,
+        Which::Grid => t != MULTI_POLYGON,
+        Which::Turn => t != MULTI_POLYGON,
     }
 }

@@ -21,7 +21,7 @@ opened-requires c κs =
     let a = c .before .before .before .before .before .before .before .before .before .before .before .args in
     let t = c .before .before .before .before .t .given in
     let d = c .before .before .before .before .before .before .seat .ensures .seat (t .0 .0) (t .1) in
-    (d .onward .ahead .within, d .found, d .within)
+    (d .onward .ahead .within, (d .found, d .within))
 
 returns : tie.Need-returns
 returns c =

@@ -2,7 +2,7 @@
 use mathlib.Core.Path.{_∙_}
 use native.Mathlib.Nat.{le-trans}
 use native.Mathlib.Omega.{arith}
-use Rattle.frame.specs.Step.{part}
+use Rattle.frame.specs.Next.{part}
 use Rattle.frame.proofs.Found.{page-is}
 use Rattle.page.proofs.Opening.{limits-of, first-of, opened-refused}
 use Rattle.fetch.specs.Fetch.{roomsOf}
@@ -40,7 +40,7 @@ row-at-requires c κs =
     let p = c .before .p .given in
     let o = c .before .before .before .before .before .before .before .«open» .ensures .lists (p .0 .0) (p .1) in
     let k = page-is (st .args .s .now) (st .args .t .at) (p .0 .0) (o .0) in
-    (k .stands .fits, (st .args .t .at .edition, k .headed), index-within (st .args .s .now) (st .args .t) (p .0 .0) (st .pre .1) (o .0) (st .pre .2))
+    (k .stands .fits, (st .args .t .at .edition, k .headed), index-within (st .args .s .now) (st .args .t) (p .0 .0) (st .pre .1 .0) (o .0) (st .pre .1 .1))
 
 array-share-prefix-counts : tie.Need-array-share-prefix-counts
 array-share-prefix-counts c =
@@ -80,7 +80,8 @@ span-of-requires c κs =
     let p = c .before .before .before .before .p .given in
     let o = c .before .before .before .before .before .before .before .before .before .before .«open» .ensures .lists (p .0 .0) (p .1) in
     let m = limits-of (st .args .s .now) (st .args .t .at) (p .0 .0) (o .0) in
-    loaded-spans (p .0 .0 .head) (part (st .args .s .now) (p .0 .0 .body) (p .0 .0 .len)) _ _ _ _ (o .1) (st .args .t .index) (index-within (st .args .s .now) (st .args .t) (p .0 .0) (st .pre .1) (o .0) (st .pre .2)) (m .vertices)
+    let r = loaded-spans (p .0 .0 .head) (part (st .args .s .now) (p .0 .0 .body) (p .0 .0 .len)) _ _ _ _ (o .1) (st .args .t .index) (index-within (st .args .s .now) (st .args .t) (p .0 .0) (st .pre .1 .0) (o .0) (st .pre .1 .1)) (m .vertices) in
+    (r .0, (r .1, (r .2, r .3)))
 
 array-share-prefix-page-lens-2 : tie.Need-array-share-prefix-page-lens-2
 array-share-prefix-page-lens-2 c =
@@ -137,18 +138,18 @@ put-shape-requires c κs =
     let o = c .before .before .before .before .before .before .before .before .before .before .before .before .before .before .before .before .before .«open» .ensures .lists (p .0 .0) (p .1) in
     let m = limits-of (st .args .s .now) (st .args .t .at) (p .0 .0) (o .0) in
     let i = st .args .t .index in
-    let r = loaded-spans (p .0 .0 .head) (part (st .args .s .now) (p .0 .0 .body) (p .0 .0 .len)) _ _ _ _ (o .1) i (index-within (st .args .s .now) (st .args .t) (p .0 .0) (st .pre .1) (o .0) (st .pre .2)) (m .vertices) in
+    let r = loaded-spans (p .0 .0 .head) (part (st .args .s .now) (p .0 .0 .body) (p .0 .0 .len)) _ _ _ _ (o .1) i (index-within (st .args .s .now) (st .args .t) (p .0 .0) (st .pre .1 .0) (o .0) (st .pre .1 .1)) (m .vertices) in
     let v = loaded-vertices (p .0 .0 .head) (part (st .args .s .now) (p .0 .0 .body) (p .0 .0 .len)) _ _ _ _ (o .1) in
     let x = span-parts _ _ i (r .0) (r .1) in
     let y = span-vertices _ _ i (r .0) (r .1) in
-    rw (c .before .before .before .before .before .before .span-of .ensures) (x .0, x .1, y .0, rw (← v .0) (y .1), v .1)
+    rw (c .before .before .before .before .before .before .span-of .ensures) (record { parts = x .0; lens-reach = x .1; vertices = y .0; xs-reach = rw (← v .0) (y .1); same = v .1 })
 
 returns : tie.Need-returns
 returns c =
     let st = c .before .before .before .before .before .before .before .before .before .before .before .before .before .before .before .before in
     let w = c .before .w .given in
     let open′ = c .before .before .before .before .before .before .before .«open» in
-    fetches-refused (w .0 .0) (seat-bad _ _ (w .0 .0) (opened-refused _ _ _ _ _ _ _ (open′ .ensures) (st .args .t .page) (st .pre .1) (w .0 .0) (w .1)))
+    fetches-refused (w .0 .0) (seat-bad _ _ (w .0 .0) (opened-refused _ _ _ _ _ _ _ (open′ .ensures) (st .args .t .page) (st .pre .1 .0) (w .0 .0) (w .1)))
 
 same-length : tie.Need-same-length
 same-length c = search needs
@@ -168,8 +169,8 @@ returns-2 c =
     let span-of = c .before .before .before .before .before .before .before .before .before .before .before .before .before .span-of in
     let put-shape = c .before .before .before .before .before .before .put-shape in
     let t = st .args .t in
-    rw (seat-page (st .args .s .now) t (p .0 .0) (roomsOf (st .args .lens .now) (st .args .xs .now) (st .args .ys .now)) (st .pre .1) (o .0)
-    ∙ loaded-shape (p .0 .0 .head) (part (st .args .s .now) (p .0 .0 .body) (p .0 .0 .len)) _ _ _ _ (o .1) (t .at .pages) (t .index) (row-at .result) (span-of .result) (roomsOf (st .args .lens .now) (st .args .xs .now) (st .args .ys .now)) (index-within (st .args .s .now) (st .args .t) (p .0 .0) (st .pre .1) (o .0) (st .pre .2)) (row-at .ensures) (span-of .ensures)) (put-shape .ensures)
+    rw (seat-page (st .args .s .now) t (p .0 .0) (roomsOf (st .args .lens .now) (st .args .xs .now) (st .args .ys .now)) (st .pre .1 .0) (o .0)
+    ∙ loaded-shape (p .0 .0 .head) (part (st .args .s .now) (p .0 .0 .body) (p .0 .0 .len)) _ _ _ _ (o .1) (t .at .pages) (t .index) (row-at .result) (span-of .result) (roomsOf (st .args .lens .now) (st .args .xs .now) (st .args .ys .now)) (index-within (st .args .s .now) (st .args .t) (p .0 .0) (st .pre .1 .0) (o .0) (st .pre .1 .1)) (row-at .ensures) (span-of .ensures)) (put-shape .ensures)
 
 pub opened-spec : {M : Type 1} → statement M
 opened-spec =

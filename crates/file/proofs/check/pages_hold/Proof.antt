@@ -3,7 +3,7 @@ use mathlib.Core.Path.{_≡_, refl, sym, _∙_}
 use Prim.Native.Nat.{_-_}
 use borrow.Author.Tests.{not-true, not-false}
 use lib.ListN.{length}
-use Rattle.frame.proofs.Ahead.{ahead-turn, ahead-stop, ahead-go}
+use Rattle.frame.proofs.Ahead.{ahead-next, ahead-stop, ahead-go}
 use Rattle.page.proofs.Opening.{scratch-kept, opened-refused}
 use Rattle.file.proofs.Rests.{Going, going-end, going-refused, going-on, going-fewer}
 use borrow.Author.Needs.{needs}
@@ -20,15 +20,17 @@ loop-holds : tie.Need-loop-holds Inv-loop μ-loop
 loop-holds c = (record { ahead = c .before .before .before .before .before .pre .0; same = refl }, refl, refl, refl, refl)
 
 at-end-requires : tie.Need-at-end-requires Inv-loop μ-loop
-at-end-requires c κs = ahead-turn _ _ _ (c .loop .inv .0 .ahead .1)
+at-end-requires c κs = ahead-next _ _ _ (c .loop .inv .0 .ahead .1)
 
 open-requires : tie.Need-open-requires Inv-loop μ-loop
 open-requires c κs =
     let v = c .before .before .before .before .before .before .loop .inv in
     let g = v .0 .ahead .1 in (
       g .within,
-      ahead-go _ _ _ g (sym (c .before .before .before .before .before .at-end .ensures) ∙ not-true _ (c .before .before .before .before .if1 .taken)),
-      scratch-kept _ _ _ _ _ _ _ _ (c .before .before .before .before .before .before .before .before .before .before .before .before .pre .1) (v .1) (v .2) (v .3) (v .4),
+      (
+        ahead-go _ _ _ g (sym (c .before .before .before .before .before .at-end .ensures) ∙ not-true _ (c .before .before .before .before .if1 .taken)),
+        scratch-kept _ _ _ _ _ _ _ _ (c .before .before .before .before .before .before .before .before .before .before .before .before .pre .1) (v .1) (v .2) (v .3) (v .4),
+      ),
     )
 
 enum-known-p : tie.Need-enum-known-p Inv-loop μ-loop

@@ -34,7 +34,7 @@ returns c =
     let column-into = c .before .before .before .before .before .column-into in
     let st = c .before .before .before .before .before .before .before .before .before .before .before .before .before in
     let w = c .before .w .given in
-    columns-refused (st .args .h) (st .args .b .now) _ _ _ _ (x-part (st .args .h) (st .args .b .now) _ _ refl refl) (st .pre .2) (w .0 .0) (rw (w .1) at (column-into .ensures))
+    columns-refused (st .args .h) (st .args .b .now) _ _ _ _ (x-part (st .args .h) (st .args .b .now) _ _ refl refl) (st .pre .1 .1 .0) (w .0 .0) (rw (w .1) at (column-into .ensures))
 
 enum-told : tie.Need-enum-told
 enum-told c = search needs
@@ -62,7 +62,7 @@ returns-2 c =
     let column-into = c .before .before .before .before .before .before .before .before .before .column-into in
     let enum-told′ = c .before .before .before .before .before .enum-told in
     let st = c .before .before .before .before .before .before .before .before .before .before .before .before .before .before .before .before .before in
-    columns-both (st .args .h) (st .args .b .now) _ _ _ _ (x-part (st .args .h) (st .args .b .now) _ _ refl refl) (st .pre .2) _ _ (c .before .before .column-into2 .result) (y-part (st .args .h) (st .args .b .now) _ _ refl refl) (st .pre .3) (rw (enum-told′ .given .1) at (column-into .ensures)) (c .before .before .column-into2 .ensures)
+    columns-both (st .args .h) (st .args .b .now) _ _ _ _ (x-part (st .args .h) (st .args .b .now) _ _ refl refl) (st .pre .1 .1 .0) _ _ (c .before .before .column-into2 .result) (y-part (st .args .h) (st .args .b .now) _ _ refl refl) (st .pre .1 .1 .1) (rw (enum-told′ .given .1) at (column-into .ensures)) (c .before .before .column-into2 .ensures)
 
 pub columns-spec : {M : Type 1} → statement M
 columns-spec =

@@ -13,7 +13,7 @@ read-u16s-requires c κs =
     let h = st .args .h in
     let b = st .args .b .now in
     let l = head-stands (st .pre .0 .0) b h (st .pre .0 .1) in
-    omega (arith, l .counts, st .pre .1)
+    omega (arith, l .counts, st .pre .1 .for-counts)
 
 read-u16s-requires-2 : tie.Need-read-u16s-requires-2
 read-u16s-requires-2 c κs =
@@ -21,7 +21,7 @@ read-u16s-requires-2 c κs =
     let h = st .args .h in
     let b = st .args .b .now in
     let l = head-stands (st .pre .0 .0) b h (st .pre .0 .1) in
-    omega (arith, l .lens, st .pre .2)
+    omega (arith, l .lens, st .pre .1 .for-lens)
 
 add-to : tie.Need-add-to
 add-to c =
@@ -63,8 +63,8 @@ returns c =
     let h = st .args .h in
     let b = st .args .b .now in
     let l = head-stands (st .pre .0 .0) b h (st .pre .0 .1) in
-    let ec = c .before .before .before .before .before .before .before .before .before .before .before .before .before .before .read-u16s .ensures ∙ counts-read h b _ (st .pre .1) in
-    let el = c .before .before .before .before .before .before .before .before .before .before .read-u16s2 .ensures ∙ lens-read h b _ (st .pre .2) in
+    let ec = c .before .before .before .before .before .before .before .before .before .before .before .before .before .before .read-u16s .ensures ∙ counts-read h b _ (st .pre .1 .for-counts) in
+    let el = c .before .before .before .before .before .before .before .before .before .before .read-u16s2 .ensures ∙ lens-read h b _ (st .pre .1 .for-lens) in
     let et = types-read h b _ _ refl refl in
     let w = c .before .w .given in
     loads-parts h b _ _ _ _ _ (h .v) ec el et refl (w .0 .0) (rw (w .1) at (c .before .before .before .parts-rule .ensures))
@@ -78,7 +78,7 @@ columns-requires c κs =
     let h = st .args .h in
     let b = st .args .b .now in
     let l = head-stands (st .pre .0 .0) b h (st .pre .0 .1) in
-    (l .exact, l .few, st .pre .3, st .pre .4)
+    (l .exact, (l .few, (st .pre .1 .for-xs, st .pre .1 .for-ys)))
 
 enum-known-w-2 : tie.Need-enum-known-w-2
 enum-known-w-2 c = search needs
@@ -106,8 +106,8 @@ returns-2 c =
     let h = st .args .h in
     let b = st .args .b .now in
     let l = head-stands (st .pre .0 .0) b h (st .pre .0 .1) in
-    let ec = read-u16s .ensures ∙ counts-read h b _ (st .pre .1) in
-    let el = read-u16s2 .ensures ∙ lens-read h b _ (st .pre .2) in
+    let ec = read-u16s .ensures ∙ counts-read h b _ (st .pre .1 .for-counts) in
+    let el = read-u16s2 .ensures ∙ lens-read h b _ (st .pre .1 .for-lens) in
     let et = types-read h b _ _ refl refl in
     let w = c .before .w2 .given in
     loads-columns h b _ _ _ _ _ (h .v) ec el et refl (rw (enum-told′ .given .1) at (parts-rule .ensures)) (w .0 .0) (rw (w .1) at (columns .ensures))
@@ -115,22 +115,22 @@ returns-2 c =
 enum-told-2 : tie.Need-enum-told-2
 enum-told-2 c = search needs
 
-sub-page-rules : tie.Need-sub-page-rules
-sub-page-rules c = search needs
+sub-vertex-rules : tie.Need-sub-vertex-rules
+sub-vertex-rules c = search needs
 
-part-page-rules-start : tie.Need-part-page-rules-start
-part-page-rules-start c = search needs
+part-vertex-rules-start : tie.Need-part-vertex-rules-start
+part-vertex-rules-start c = search needs
 
-part-page-rules-end : tie.Need-part-page-rules-end
-part-page-rules-end c =
+part-vertex-rules-end : tie.Need-part-vertex-rules-end
+part-vertex-rules-end c =
     let st = c .before .before .before .before .before .before .before .before .before .before .before .before .before .before .before .before .before .before .before .before .before .before .before .before .before .before .before .before .before in
     let h = st .args .h in
     let b = st .args .b .now in
     let l = head-stands (st .pre .0 .0) b h (st .pre .0 .1) in
     omega (arith, l .types)
 
-page-rules-requires : tie.Need-page-rules-requires
-page-rules-requires c κs =
+vertex-rules-requires : tie.Need-vertex-rules-requires
+vertex-rules-requires c κs =
     let shared-slice-known = c .before .before .before .before .before .before .before .before .before .before .before .before .before .before .before .before .before .before .before .before .before .before .before .before .before .before .before .before .before .before .before .before .before .shared-slice-known in
     let read-u16s = c .before .before .before .before .before .before .before .before .before .before .before .before .before .before .before .before .before .before .before .before .before .before .before .before .before .before .before .read-u16s in
     let read-u16s2 = c .before .before .before .before .before .before .before .before .before .before .before .before .before .before .before .before .before .before .before .before .before .before .before .read-u16s2 in
@@ -142,12 +142,18 @@ page-rules-requires c κs =
     let h = st .args .h in
     let b = st .args .b .now in
     let l = head-stands (st .pre .0 .0) b h (st .pre .0 .1) in
-    let ec = read-u16s .ensures ∙ counts-read h b _ (st .pre .1) in
-    let el = read-u16s2 .ensures ∙ lens-read h b _ (st .pre .2) in
+    let ec = read-u16s .ensures ∙ counts-read h b _ (st .pre .1 .for-counts) in
+    let el = read-u16s2 .ensures ∙ lens-read h b _ (st .pre .1 .for-lens) in
     let et = types-read h b _ _ refl refl in
     let k = rw (enum-told2 .given .1) at (columns .ensures) in
-    let n = vertices-long h b _ _ (k .vertices refl) in
-    (head-box (st .pre .0 .0) b h (λ i. shared-slice-known .given i .fits) (st .pre .0 .1), rw (n .0) (loads-holds h b _ _ b b _ (h .v) ec el et refl (rw (enum-told′ .given .1) at (parts-rule .ensures))), n .1 ∙ sym (n .0), omega (arith, n .0, l .few))
+    let n = vertices-long h b _ _ (k .vertices refl) in (
+      head-box (st .pre .0 .0) b h (λ i. shared-slice-known .given i .fits) (st .pre .0 .1),
+      record {
+        parts = rw (n .0) (loads-holds h b _ _ b b _ (h .v) ec el et refl (rw (enum-told′ .given .1) at (parts-rule .ensures)));
+        same = n .1 ∙ sym (n .0);
+        few = omega (arith, n .0, l .few);
+      },
+    )
 
 same-length-7 : tie.Need-same-length-7
 same-length-7 c = search needs
@@ -173,10 +179,10 @@ returns-3 c =
     let h = st .args .h in
     let b = st .args .b .now in
     let l = head-stands (st .pre .0 .0) b h (st .pre .0 .1) in
-    let ec = read-u16s .ensures ∙ counts-read h b _ (st .pre .1) in
-    let el = read-u16s2 .ensures ∙ lens-read h b _ (st .pre .2) in
+    let ec = read-u16s .ensures ∙ counts-read h b _ (st .pre .1 .for-counts) in
+    let el = read-u16s2 .ensures ∙ lens-read h b _ (st .pre .1 .for-lens) in
     let et = types-read h b _ _ refl refl in
-    loads-rules h b _ _ _ _ _ (h .v) ec el et refl (rw (enum-told′ .given .1) at (parts-rule .ensures)) (rw (enum-told2 .given .1) at (columns .ensures)) (c .page-rules .result) (c .page-rules .ensures)
+    loads-rules h b _ _ _ _ _ (h .v) ec el et refl (rw (enum-told′ .given .1) at (parts-rule .ensures)) (rw (enum-told2 .given .1) at (columns .ensures)) (c .vertex-rules .result) (c .vertex-rules .ensures)
 
 pub load-spec : {M : Type 1} → statement M
 load-spec =
@@ -202,10 +208,10 @@ load-spec =
     same-length-6
     returns-2
     enum-told-2
-    sub-page-rules
-    part-page-rules-start
-    part-page-rules-end
-    page-rules-requires
+    sub-vertex-rules
+    part-vertex-rules-start
+    part-vertex-rules-end
+    vertex-rules-requires
     same-length-7
     same-length-8
     same-length-9

@@ -32,56 +32,56 @@ slice-relend-prefix-load c =
     let st = c .before .before .before .before .before .before .before .before in
     let at = c .before .before .page-at in
     let m = limits-of (st .args .s .now) (st .args .c) (at .result) (at .ensures) in
-    omega (arith, m .few, st .pre .2 .for-counts)
+    omega (arith, m .few, st .pre .1 .1 .for-counts)
 
 slice-aggregate-load : tie.Need-slice-aggregate-load
 slice-aggregate-load c =
     let st = c .before .before .before .before .before .before .before .before .before in
     let at = c .before .before .before .page-at in
     let m = limits-of (st .args .s .now) (st .args .c) (at .result) (at .ensures) in
-    first-of (at .result .head .g) 256 (st .args .counts .now) (st .pre .2 .for-counts) (m .few)
+    first-of (at .result .head .g) 256 (st .args .counts .now) (st .pre .1 .1 .for-counts) (m .few)
 
 slice-relend-prefix-load-2 : tie.Need-slice-relend-prefix-load-2
 slice-relend-prefix-load-2 c =
     let st = c .before .before .before .before .before .before .before .before .before in
     let at = c .before .before .before .page-at in
     let m = limits-of (st .args .s .now) (st .args .c) (at .result) (at .ensures) in
-    omega (arith, le-trans (m .parts) (m .vertices), st .pre .2 .for-lens)
+    omega (arith, le-trans (m .parts) (m .vertices), st .pre .1 .1 .for-lens)
 
 slice-aggregate-load-2 : tie.Need-slice-aggregate-load-2
 slice-aggregate-load-2 c =
     let st = c .before .before .before .before .before .before .before .before .before .before in
     let at = c .before .before .before .before .page-at in
     let m = limits-of (st .args .s .now) (st .args .c) (at .result) (at .ensures) in
-    first-of (at .result .head .p) 2048 (st .args .lens .now) (st .pre .2 .for-lens) (le-trans (m .parts) (m .vertices))
+    first-of (at .result .head .p) 2048 (st .args .lens .now) (st .pre .1 .1 .for-lens) (le-trans (m .parts) (m .vertices))
 
 slice-relend-prefix-load-3 : tie.Need-slice-relend-prefix-load-3
 slice-relend-prefix-load-3 c =
     let st = c .before .before .before .before .before .before .before .before .before .before in
     let at = c .before .before .before .before .page-at in
     let m = limits-of (st .args .s .now) (st .args .c) (at .result) (at .ensures) in
-    omega (arith, m .vertices, st .pre .2 .for-xs)
+    omega (arith, m .vertices, st .pre .1 .1 .for-xs)
 
 slice-aggregate-load-3 : tie.Need-slice-aggregate-load-3
 slice-aggregate-load-3 c =
     let st = c .before .before .before .before .before .before .before .before .before .before .before in
     let at = c .before .before .before .before .before .page-at in
     let m = limits-of (st .args .s .now) (st .args .c) (at .result) (at .ensures) in
-    first-of (at .result .head .v) 2048 (st .args .xs .now) (st .pre .2 .for-xs) (m .vertices)
+    first-of (at .result .head .v) 2048 (st .args .xs .now) (st .pre .1 .1 .for-xs) (m .vertices)
 
 slice-relend-prefix-load-4 : tie.Need-slice-relend-prefix-load-4
 slice-relend-prefix-load-4 c =
     let st = c .before .before .before .before .before .before .before .before .before .before .before in
     let at = c .before .before .before .before .before .page-at in
     let m = limits-of (st .args .s .now) (st .args .c) (at .result) (at .ensures) in
-    omega (arith, m .vertices, st .pre .2 .for-ys)
+    omega (arith, m .vertices, st .pre .1 .1 .for-ys)
 
 slice-aggregate-load-4 : tie.Need-slice-aggregate-load-4
 slice-aggregate-load-4 c =
     let st = c .before .before .before .before .before .before .before .before .before .before .before .before in
     let at = c .before .before .before .before .before .before .page-at in
     let m = limits-of (st .args .s .now) (st .args .c) (at .result) (at .ensures) in
-    first-of (at .result .head .v) 2048 (st .args .ys .now) (st .pre .2 .for-ys) (m .vertices)
+    first-of (at .result .head .v) 2048 (st .args .ys .now) (st .pre .1 .1 .for-ys) (m .vertices)
 
 load-requires : tie.Need-load-requires
 load-requires c κs =
@@ -90,10 +90,12 @@ load-requires c κs =
     let m = limits-of (st .args .s .now) (st .args .c) (at .result) (at .ensures) in
     let p = at .result in (
       (st .args .c .edition, rw (part-of (st .args .s .now) (p .body) (p .len)) (page-is _ _ _ (at .ensures) .headed)),
-      sym (first-of (p .head .g) 256 (st .args .counts .now) (st .pre .2 .for-counts) (m .few)),
-      sym (first-of (p .head .p) 2048 (st .args .lens .now) (st .pre .2 .for-lens) (le-trans (m .parts) (m .vertices))),
-      sym (first-of (p .head .v) 2048 (st .args .xs .now) (st .pre .2 .for-xs) (m .vertices)),
-      sym (first-of (p .head .v) 2048 (st .args .ys .now) (st .pre .2 .for-ys) (m .vertices)),
+      record {
+        for-counts = sym (first-of (p .head .g) 256 (st .args .counts .now) (st .pre .1 .1 .for-counts) (m .few));
+        for-lens = sym (first-of (p .head .p) 2048 (st .args .lens .now) (st .pre .1 .1 .for-lens) (le-trans (m .parts) (m .vertices)));
+        for-xs = sym (first-of (p .head .v) 2048 (st .args .xs .now) (st .pre .1 .1 .for-xs) (m .vertices));
+        for-ys = sym (first-of (p .head .v) 2048 (st .args .ys .now) (st .pre .1 .1 .for-ys) (m .vertices));
+      },
     )
 
 enum-told : tie.Need-enum-told

@@ -5,7 +5,7 @@ use native.Mathlib.Omega.{arith}
 use borrow.Author.Tests.{lt-ltb, le-ltb}
 use lib.Dec.{ltb}
 use lib.ListN.{length, getD, drop, drop-of-length-le}
-use Rattle.answer.specs.Every.{allOf}
+use Rattle.answer.specs.All.{allOf}
 use Rattle.answer.proofs.Alls.{stands, all-more, all-stop, all-done}
 use Rattle.place.proofs.rows.all_there.Statement.{statement}
 use Rattle.place.proofs.rows.all_there.Tie as tie

@@ -22,7 +22,7 @@ loop-holds : tie.Need-loop-holds Inv-loop μ-loop
 loop-holds c =
     let st = c .before .before .before .before in
     let a = st .args in
-    listing-none (a .s .now) (a .places .now) (a .registers .now) (a .types .now) (a .from) (st .pre .2 .0) (st .pre .0) (st .pre .2 .1) (st .pre .3) (st .pre .4)
+    listing-none (a .s .now) (a .places .now) (a .registers .now) (a .types .now) (a .from) (st .pre .1 .0 .0) (st .pre .0 .0) (st .pre .1 .0 .1) (st .pre .1 .1 .0) (st .pre .1 .1 .1)
 
 mul-place : tie.Need-mul-place Inv-loop μ-loop
 mul-place c = omega arith
@@ -36,7 +36,7 @@ cast-place c = omega (arith, c .shared-slice-known3 .given (c .before .before .l
 start-requires : tie.Need-start-requires Inv-loop μ-loop
 start-requires c κs =
     let pre = c .before .before .before .before .before .before .before .pre in
-    (pre .0, pre .1, c .before .before .loop .inv .onward)
+    (pre .0 .0, pre .0 .1, c .before .before .loop .inv .onward)
 
 seek-requires : tie.Need-seek-requires Inv-loop μ-loop
 seek-requires c κs = (c .start .ensures .0, c .start .ensures .1)

@@ -65,7 +65,7 @@ put-rows-requires c κs =
     let f = sound-said (args .s .now) _ (frame .ensures) (t .0 .0) (t .1) in
     let r = all-rows (args .s .now) (args .places .now) (f .0) (t .0 .0) (f .1) (f .2) (sym (c .before .before .before .before .before .all-there .ensures) ∙ not-false _ (c .before .before .before .before .if1 .left)) in
     let b = begun-said (args .s .now) _ (frame .ensures) (t .0 .0) (t .1) in
-    (onward-first _ _ b, b .no-shape, (r .0, r .1), c .before .before .before .if2 .left, c .before .before .if3 .left)
+    ((onward-first _ _ b, b .no-shape), ((r .0, r .1), (c .before .before .before .if2 .left, c .before .before .if3 .left)))
 
 returns-4 : tie.Need-returns-4
 returns-4 c =

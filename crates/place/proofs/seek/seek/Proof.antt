@@ -7,8 +7,8 @@ use borrow.Author.Tests.{not-true, not-false}
 use Rattle.answer.proofs.Outcomes.{ok-inj}
 use Rattle.frame.specs.declared.cursor.Glance.{Glance}
 use Rattle.frame.specs.declared.cursor.PageAt.{PageAt}
-use Rattle.frame.proofs.Steps.{page-inj}
-use Rattle.frame.proofs.Ahead.{ahead-turn, ahead-stop, ahead-go}
+use Rattle.frame.proofs.Ways.{page-inj}
+use Rattle.frame.proofs.Ahead.{ahead-next, ahead-stop, ahead-go}
 use Rattle.place.specs.Onward.{Onward}
 use Rattle.place.proofs.Onwards.{onward-end, onward-fewer, onward-here, onward-more}
 use borrow.Author.Needs.{needs}
@@ -25,7 +25,7 @@ loop-holds : tie.Need-loop-holds Inv-loop μ-loop
 loop-holds c = (c .before .pre .0, c .before .pre .1)
 
 at-end-requires : tie.Need-at-end-requires Inv-loop μ-loop
-at-end-requires c κs = ahead-turn _ _ _ (c .loop .inv .0 .ahead)
+at-end-requires c κs = ahead-next _ _ _ (c .loop .inv .0 .ahead)
 
 glance-requires : tie.Need-glance-requires Inv-loop μ-loop
 glance-requires c κs = (c .before .before .loop .inv .0 .ahead .within .shapes, ahead-go _ _ _ (c .before .before .loop .inv .0 .ahead) (sym (c .before .at-end .ensures) ∙ not-true _ (c .if1 .taken)))

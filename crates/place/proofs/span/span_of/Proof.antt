@@ -16,13 +16,13 @@ before-it : (c : tie.After-total) → c .total .result ≤ length (c .before .be
 before-it c =
     let args = c .before .before .before .before .args in
     let pre = c .before .before .before .before .pre in
-    omega (arith, c .total .ensures, total-take-le (args .i) (args .counts .now), pre .1)
+    omega (arith, c .total .ensures, total-take-le (args .i) (args .counts .now), pre .1 .0)
 
 with-it : (c : tie.After-total) → c .total .result + getD (c .before .before .before .before .args .counts .now) (c .before .before .before .before .args .i) 0 ≤ length (c .before .before .before .before .args .lens .now)
 with-it c =
     let pre = c .before .before .before .before .pre in
     let a = c .before .before .before .before .args in
-    omega (arith, c .total .ensures, total-suc (a .counts .now) (a .i) (pre .0), total-take-le (suc (a .i)) (a .counts .now), pre .1)
+    omega (arith, c .total .ensures, total-suc (a .counts .now) (a .i) (pre .0), total-take-le (suc (a .i)) (a .counts .now), pre .1 .0)
 
 slice-aggregate-total : tie.Need-slice-aggregate-total
 slice-aggregate-total c =
@@ -32,7 +32,7 @@ slice-aggregate-total c =
 total-requires : tie.Need-total-requires
 total-requires c κs =
     let a = c .before .before .before .args in
-    omega (arith, total-take-le (a .i) (a .counts .now), c .before .before .before .pre .1, c .before .before .before .pre .2)
+    omega (arith, total-take-le (a .i) (a .counts .now), c .before .before .before .pre .1 .0, c .before .before .before .pre .1 .1 .0)
 
 mul-part-end : tie.Need-mul-part-end
 mul-part-end c = search needs
@@ -44,7 +44,7 @@ cast-part-end : tie.Need-cast-part-end
 cast-part-end c = omega (arith, c .shared-slice-known3 .given (c .before .before .before .before .before .args .i))
 
 add-part-end : tie.Need-add-part-end
-add-part-end c = omega (arith, with-it (c .before), c .before .before .before .before .before .pre .2)
+add-part-end c = omega (arith, with-it (c .before), c .before .before .before .before .before .pre .1 .1 .0)
 
 slice-aggregate-total-2 : tie.Need-slice-aggregate-total-2
 slice-aggregate-total-2 c = sym (length-take-le (c .before .before .total .result) (c .before .before .before .before .before .before .args .lens .now) (before-it (c .before .before)))
@@ -53,7 +53,7 @@ total-requires-2 : tie.Need-total-requires-2
 total-requires-2 c κs =
     let args = c .before .before .before .before .before .before .args in
     let pre = c .before .before .before .before .before .before .pre in
-    omega (arith, total-take-le (c .before .before .total .result) (args .lens .now), pre .3)
+    omega (arith, total-take-le (c .before .before .total .result) (args .lens .now), pre .1 .1 .1)
 
 slice-aggregate-total-3 : tie.Need-slice-aggregate-total-3
 slice-aggregate-total-3 c =
@@ -66,7 +66,7 @@ total-requires-3 c κs =
     let args = c .before .before .before .before .before .before .before .before .args in
     let pre = c .before .before .before .before .before .before .before .before .pre in
     let total′ = c .before .before .before .before .total in
-    omega (arith, total-take-le (total′ .result + getD (args .counts .now) (args .i) 0) (args .lens .now), pre .3)
+    omega (arith, total-take-le (total′ .result + getD (args .counts .now) (args .i) 0) (args .lens .now), pre .1 .1 .1)
 
 returns : tie.Need-returns
 returns c =

@@ -1,6 +1,7 @@
 -- `query::ask::hit` asks the shape's window test of a spot and of a window; the query for everything meets each shape. Assumes nothing.
 use mathlib.Core.Path.{sym, ap, _∙_, subst}
-use Rattle.extent.specs.Boxes.{Bounds, FiniteBox}
+use Rattle.extent.specs.declared.bounds.Bounds.{Bounds}
+use Rattle.extent.specs.Boxes.{FiniteBox}
 use Rattle.query.specs.Ask.{reachOf, inWindow, hit}
 use Rattle.query.proofs.Touching.{touches-everything, touches-spot, touches-window, spot-finite, window-finite}
 use borrow.Author.Needs.{needs}

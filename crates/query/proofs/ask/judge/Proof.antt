@@ -7,14 +7,14 @@ use borrow.Author.Needs.{needs}
 use Rattle.query.proofs.ask.judge.Statement.{statement}
 use Rattle.query.proofs.ask.judge.Tie as tie
 
-sound-requires : tie.Need-sound-requires
-sound-requires c κs = search needs
+good-query-requires : tie.Need-good-query-requires
+good-query-requires c κs = search needs
 
 of-requires : tie.Need-of-requires
 of-requires c κs = search needs
 
 returns : tie.Need-returns
-returns c = c .of .ensures ∙ ap (λ (t : Bool). rule t query) (c .before .sound .ensures)
+returns c = c .of .ensures ∙ ap (λ (t : Bool). rule t query) (c .before .good-query .ensures)
 
 pub judge-spec : {M : Type 1} → statement M
-judge-spec = tie.close (tie.spec sound-requires of-requires returns)
+judge-spec = tie.close (tie.spec good-query-requires of-requires returns)

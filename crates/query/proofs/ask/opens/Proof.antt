@@ -1,6 +1,7 @@
 -- `query::ask::opens` asks the page's window test of a spot and of a window; the query for everything opens each page. Assumes nothing.
 use mathlib.Core.Path.{sym, ap, _∙_, subst}
-use Rattle.extent.specs.Boxes.{Bounds, FiniteBox, patterns}
+use Rattle.extent.specs.declared.bounds.Bounds.{Bounds}
+use Rattle.extent.specs.Boxes.{FiniteBox, patterns}
 use Rattle.query.specs.Ask.{stored, inWindow, opens}
 use Rattle.query.proofs.Touching.{touches-everything, touches-spot, touches-window, spot-finite, window-finite}
 use borrow.Author.Needs.{needs}

@@ -1,4 +1,4 @@
--- `search::count::count` judges the query, and counts what it hits if it is sound. Assumes nothing.
+-- `search::count::count` judges the query, and counts what it hits if it is good. Assumes nothing.
 use Rattle.search.proofs.Services.{query-sound, query-refused, count-refused}
 use borrow.Author.Needs.{needs}
 use Rattle.search.proofs.count.count.Statement.{statement}
@@ -19,8 +19,8 @@ returns c =
 enum-told : tie.Need-enum-told
 enum-told c = search needs
 
-count-sound-requires : tie.Need-count-sound-requires
-count-sound-requires c κs = query-sound _ (rw (c .enum-told .given .1) at (c .before .before .judge .ensures))
+count-good-requires : tie.Need-count-good-requires
+count-good-requires c κs = query-sound _ (rw (c .enum-told .given .1) at (c .before .before .judge .ensures))
 
 returns-2 : tie.Need-returns-2
 returns-2 c = search needs
@@ -28,4 +28,4 @@ returns-2 c = search needs
 pub count-spec : {M : Type 1} → statement M
 count-spec =
     tie.close
-    (tie.spec judge-requires enum-known-w returns enum-told count-sound-requires returns-2)
+    (tie.spec judge-requires enum-known-w returns enum-told count-good-requires returns-2)

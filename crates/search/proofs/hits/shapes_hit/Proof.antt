@@ -53,7 +53,7 @@ loop-holds : tie.Need-loop-holds Inv-loop μ-loop
 loop-holds c =
     let s = c .before .before .before .before .before .before in
     let a = s .args in
-    (walking-none (a .types .now) (a .counts .now) (a .lens .now) (a .xs .now) (a .ys .now) (s .pre .2) (s .pre .3), noting-none (a .a) (a .n) _ _ (a .flags .now))
+    (walking-none (a .types .now) (a .counts .now) (a .lens .now) (a .xs .now) (a .ys .now) (s .pre .1 .1 .parts) (s .pre .1 .1 .same), noting-none (a .a) (a .n) _ _ (a .flags .now))
 
 mul-e : tie.Need-mul-e Inv-loop μ-loop
 mul-e c = omega (arith, counted c)
@@ -119,13 +119,13 @@ hit-requires c κs =
     let g = ap (λ (m : ℕ). l .at + m) (c .before .before .total .ensures) in
     let s = c .before .before .before .before .before .before .before .before .before .before .before .before .before in
     let o = walking-cut (a .types .now) (a .counts .now) (a .lens .now) (a .xs .now) (a .ys .now) (l .i) (l .k) (l .at) (l .inv .0) t e end refl g in
-    (s .pre .0, o .same, all-part finite (l .at) (end - l .at) (a .xs .now) (s .pre .4), all-part finite (l .at) (end - l .at) (a .ys .now) (s .pre .5))
+    (s .pre .0, o .same, all-part finite (l .at) (end - l .at) (a .xs .now) (s .pre .1 .1 .finite-x), all-part finite (l .at) (end - l .at) (a .ys .now) (s .pre .1 .1 .finite-y))
 
 add-note : tie.Need-add-note Inv-loop μ-loop
 add-note c =
     let pre = c .before .before .before .before .before .before .before .before .before .before .before .before .before .before .pre in
     let loop-test = c .before .before .before .before .before .before .loop-test in
-    omega (arith, pre .1, loop-test .taken)
+    omega (arith, pre .1 .0, loop-test .taken)
 
 note-requires : tie.Need-note-requires Inv-loop μ-loop
 note-requires c κs = search needs
@@ -135,7 +135,7 @@ add-found c =
     let pre = c .before .before .before .before .before .before .before .before .before .before .before .before .before .before .before .before .before .before .pre in
     let loop-test = c .before .before .before .before .before .before .before .before .before .before .loop-test in
     let l = c .before .before .before .before .before .before .before .before .before .before .before .loop in
-    omega (arith, l .inv .1 .few, c .before .before .note .ensures .0, pre .1, loop-test .taken)
+    omega (arith, l .inv .1 .few, c .before .before .note .ensures .0, pre .1 .0, loop-test .taken)
 
 add-i : tie.Need-add-i Inv-loop μ-loop
 add-i c = omega arith

@@ -10,9 +10,9 @@ use Rattle.query.specs.declared.ask.Ask.{Ask}
 use Rattle.query.specs.Ask.{opens}
 use Rattle.frame.specs.declared.cursor.Glance.{Glance}
 use Rattle.frame.specs.declared.cursor.PageAt.{PageAt}
-use Rattle.frame.specs.Step.{glanceOf}
+use Rattle.frame.specs.Next.{glanceOf}
 use Rattle.frame.proofs.Found.{page-is}
-use Rattle.frame.proofs.Ahead.{ahead-turn, ahead-stop, ahead-go}
+use Rattle.frame.proofs.Ahead.{ahead-next, ahead-stop, ahead-go}
 use Rattle.page.proofs.Loading.{head-box}
 use Rattle.search.specs.Skipped.{Skipping}
 use Rattle.search.proofs.Skipping.{skipping-start, skips-end, skips-page, skipping-fewer, skipping-more}
@@ -34,7 +34,7 @@ loop-holds : tie.Need-loop-holds Inv-loop μ-loop
 loop-holds c = skipping-start (c .before .args .a) (c .before .args .s .now) (c .before .args .from) (c .before .pre .1 .0) (c .before .pre .1 .1)
 
 at-end-requires : tie.Need-at-end-requires Inv-loop μ-loop
-at-end-requires c κs = ahead-turn _ _ _ (c .loop .inv .from-d)
+at-end-requires c κs = ahead-next _ _ _ (c .loop .inv .from-d)
 
 glance-requires : tie.Need-glance-requires Inv-loop μ-loop
 glance-requires c κs = (c .before .before .loop .inv .from-d .within .shapes, ahead-go _ _ _ (c .before .before .loop .inv .from-d) (sym (c .before .at-end .ensures) ∙ not-true _ (c .if1 .taken)))

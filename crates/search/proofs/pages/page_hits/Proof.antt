@@ -2,7 +2,7 @@
 use mathlib.Core.Path.{refl, _∙_}
 use native.Mathlib.Nat.{le-trans}
 use native.Mathlib.Omega.{arith}
-use Rattle.frame.specs.Step.{part}
+use Rattle.frame.specs.Next.{part}
 use Rattle.frame.specs.Frame.{pageOf}
 use Rattle.frame.proofs.Found.{page-is}
 use Rattle.page.proofs.Opening.{limits-of, first-of, types-end, types-in, opened-refused}
@@ -54,7 +54,7 @@ slice-reshare-prefix-shapes-hit c =
     let p = c .before .before .before .p .given in
     let o = c .before .before .before .before .before .before .before .before .before .before .before .before .before .«open» .ensures .lists (p .0 .0) (p .1) in
     let m = limits-of (st .args .s .now) (st .args .c) (p .0 .0) (o .0) in
-    omega (arith, m .few, c .before .before .before .before .before .before .before .before .before .before .before .before .counts .given, st .pre .3 .for-counts)
+    omega (arith, m .few, c .before .before .before .before .before .before .before .before .before .before .before .before .counts .given, st .pre .1 .1 .1 .for-counts)
 
 slice-aggregate-shapes-hit : tie.Need-slice-aggregate-shapes-hit
 slice-aggregate-shapes-hit c =
@@ -62,7 +62,7 @@ slice-aggregate-shapes-hit c =
     let p = c .before .before .before .before .p .given in
     let o = c .before .before .before .before .before .before .before .before .before .before .before .before .before .before .«open» .ensures .lists (p .0 .0) (p .1) in
     let m = limits-of (st .args .s .now) (st .args .c) (p .0 .0) (o .0) in
-    first-of (p .0 .0 .head .g) 256 _ (c .before .before .before .before .before .before .before .before .before .before .before .before .before .counts .given ∙ st .pre .3 .for-counts) (m .few)
+    first-of (p .0 .0 .head .g) 256 _ (c .before .before .before .before .before .before .before .before .before .before .before .before .before .counts .given ∙ st .pre .1 .1 .1 .for-counts) (m .few)
 
 slice-reshare-prefix-shapes-hit-2 : tie.Need-slice-reshare-prefix-shapes-hit-2
 slice-reshare-prefix-shapes-hit-2 c =
@@ -70,7 +70,7 @@ slice-reshare-prefix-shapes-hit-2 c =
     let p = c .before .before .before .before .p .given in
     let o = c .before .before .before .before .before .before .before .before .before .before .before .before .before .before .«open» .ensures .lists (p .0 .0) (p .1) in
     let m = limits-of (st .args .s .now) (st .args .c) (p .0 .0) (o .0) in
-    omega (arith, le-trans (m .parts) (m .vertices), c .before .before .before .before .before .before .before .before .before .before .before .lens .given, st .pre .3 .for-lens)
+    omega (arith, le-trans (m .parts) (m .vertices), c .before .before .before .before .before .before .before .before .before .before .before .lens .given, st .pre .1 .1 .1 .for-lens)
 
 slice-aggregate-shapes-hit-2 : tie.Need-slice-aggregate-shapes-hit-2
 slice-aggregate-shapes-hit-2 c =
@@ -78,7 +78,7 @@ slice-aggregate-shapes-hit-2 c =
     let p = c .before .before .before .before .before .p .given in
     let o = c .before .before .before .before .before .before .before .before .before .before .before .before .before .before .before .«open» .ensures .lists (p .0 .0) (p .1) in
     let m = limits-of (st .args .s .now) (st .args .c) (p .0 .0) (o .0) in
-    first-of (p .0 .0 .head .p) 2048 _ (c .before .before .before .before .before .before .before .before .before .before .before .before .lens .given ∙ st .pre .3 .for-lens) (le-trans (m .parts) (m .vertices))
+    first-of (p .0 .0 .head .p) 2048 _ (c .before .before .before .before .before .before .before .before .before .before .before .before .lens .given ∙ st .pre .1 .1 .1 .for-lens) (le-trans (m .parts) (m .vertices))
 
 slice-reshare-prefix-shapes-hit-3 : tie.Need-slice-reshare-prefix-shapes-hit-3
 slice-reshare-prefix-shapes-hit-3 c =
@@ -86,7 +86,7 @@ slice-reshare-prefix-shapes-hit-3 c =
     let p = c .before .before .before .before .before .p .given in
     let o = c .before .before .before .before .before .before .before .before .before .before .before .before .before .before .before .«open» .ensures .lists (p .0 .0) (p .1) in
     let m = limits-of (st .args .s .now) (st .args .c) (p .0 .0) (o .0) in
-    omega (arith, m .vertices, c .before .before .before .before .before .before .before .before .before .before .xs .given, st .pre .3 .for-xs)
+    omega (arith, m .vertices, c .before .before .before .before .before .before .before .before .before .before .xs .given, st .pre .1 .1 .1 .for-xs)
 
 slice-aggregate-shapes-hit-3 : tie.Need-slice-aggregate-shapes-hit-3
 slice-aggregate-shapes-hit-3 c =
@@ -94,7 +94,7 @@ slice-aggregate-shapes-hit-3 c =
     let p = c .before .before .before .before .before .before .p .given in
     let o = c .before .before .before .before .before .before .before .before .before .before .before .before .before .before .before .before .«open» .ensures .lists (p .0 .0) (p .1) in
     let m = limits-of (st .args .s .now) (st .args .c) (p .0 .0) (o .0) in
-    first-of (p .0 .0 .head .v) 2048 _ (c .before .before .before .before .before .before .before .before .before .before .before .xs .given ∙ st .pre .3 .for-xs) (m .vertices)
+    first-of (p .0 .0 .head .v) 2048 _ (c .before .before .before .before .before .before .before .before .before .before .before .xs .given ∙ st .pre .1 .1 .1 .for-xs) (m .vertices)
 
 slice-reshare-prefix-shapes-hit-4 : tie.Need-slice-reshare-prefix-shapes-hit-4
 slice-reshare-prefix-shapes-hit-4 c =
@@ -102,7 +102,7 @@ slice-reshare-prefix-shapes-hit-4 c =
     let p = c .before .before .before .before .before .before .p .given in
     let o = c .before .before .before .before .before .before .before .before .before .before .before .before .before .before .before .before .«open» .ensures .lists (p .0 .0) (p .1) in
     let m = limits-of (st .args .s .now) (st .args .c) (p .0 .0) (o .0) in
-    omega (arith, m .vertices, c .before .before .before .before .before .before .before .before .before .ys .given, st .pre .3 .for-ys)
+    omega (arith, m .vertices, c .before .before .before .before .before .before .before .before .before .ys .given, st .pre .1 .1 .1 .for-ys)
 
 slice-aggregate-shapes-hit-4 : tie.Need-slice-aggregate-shapes-hit-4
 slice-aggregate-shapes-hit-4 c =
@@ -110,7 +110,7 @@ slice-aggregate-shapes-hit-4 c =
     let p = c .before .before .before .before .before .before .before .p .given in
     let o = c .before .before .before .before .before .before .before .before .before .before .before .before .before .before .before .before .before .«open» .ensures .lists (p .0 .0) (p .1) in
     let m = limits-of (st .args .s .now) (st .args .c) (p .0 .0) (o .0) in
-    first-of (p .0 .0 .head .v) 2048 _ (c .before .before .before .before .before .before .before .before .before .before .ys .given ∙ st .pre .3 .for-ys) (m .vertices)
+    first-of (p .0 .0 .head .v) 2048 _ (c .before .before .before .before .before .before .before .before .before .before .ys .given ∙ st .pre .1 .1 .1 .for-ys) (m .vertices)
 
 shapes-hit-requires : tie.Need-shapes-hit-requires
 shapes-hit-requires c κs =
@@ -122,7 +122,7 @@ shapes-hit-requires c κs =
     let t = types-in (st .args .s .now) (st .args .c) (p .0 .0) (o .0) _ _ refl refl in
     let y = loaded-ready h (part (st .args .s .now) (p .0 .0 .body) (p .0 .0 .len)) _ _ _ _ (o .1) _ t in
     let k = page-is (st .args .s .now) (st .args .c) (p .0 .0) (o .0) in
-    (st .pre .0, omega (arith, st .pre .1 .shapes, k .few, m .few, y .0), y .1, y .2, o .1 .finite-x, o .1 .finite-y)
+    (st .pre .0, (omega (arith, st .pre .1 .0 .shapes, k .few, m .few, y .0), record { parts = y .1; same = y .2; finite-x = o .1 .finite-x; finite-y = o .1 .finite-y }))
 
 same-length : tie.Need-same-length
 same-length c = search needs

@@ -11,8 +11,8 @@ use Rattle.extent.specs.Boxes.{patterns}
 use Rattle.query.specs.Ask.{opens}
 use Rattle.frame.specs.declared.cursor.Glance.{Glance}
 use Rattle.frame.specs.declared.cursor.PageAt.{PageAt}
-use Rattle.frame.specs.Step.{page, stepOf}
-use Rattle.frame.proofs.Ahead.{ahead-turn, ahead-stop, ahead-go, ahead-page}
+use Rattle.frame.specs.Next.{page, nextOf}
+use Rattle.frame.proofs.Ahead.{ahead-next, ahead-stop, ahead-go, ahead-page}
 use Rattle.page.proofs.Opening.{scratch-kept}
 use Rattle.search.proofs.Opened.{opened-meets}
 use Rattle.search.proofs.Meeting.{Meeting, meeting-start, meeting-end, meeting-fewer, meeting-refused, meeting-fits, meeting-more, meeting-skip}
@@ -23,7 +23,7 @@ use Rattle.search.proofs.pages.walk_hits.Tie as tie
 abbrev Inv-loop : tie.InvT-loop
 Inv-loop a s counts₀ lens₀ xs₀ ys₀ flags₀ c₀ found₀ counts lens xs ys flags c found =
     Meeting a s flags₀ c found flags
-    × ((p : PageAt) → stepOf s c ≡ ok (page p) → opens a (p .head .v) (patterns (p .head .bounds)) ≡ true)
+    × ((p : PageAt) → nextOf s c ≡ ok (page p) → opens a (p .head .v) (patterns (p .head .bounds)) ≡ true)
     × (length counts ≡ length counts₀) × (length lens ≡ length lens₀) × (length xs ≡ length xs₀) × (length ys ≡ length ys₀)
 
 abbrev μ-loop : tie.MeasureT-loop
@@ -42,7 +42,7 @@ loop-holds c =
     (meeting-skip _ _ _ _ _ _ _ (meeting-start (a .a) (a .s .now) (a .flags .now) (a .from) (st .pre .1)) (k .skipping), k .opened, refl, refl, refl, refl)
 
 at-end-requires : tie.Need-at-end-requires Inv-loop μ-loop
-at-end-requires c κs = ahead-turn _ _ _ (c .loop .inv .0 .ahead)
+at-end-requires c κs = ahead-next _ _ _ (c .loop .inv .0 .ahead)
 
 page-hits-requires : tie.Need-page-hits-requires Inv-loop μ-loop
 page-hits-requires c κs =
@@ -52,9 +52,13 @@ page-hits-requires c κs =
     let st = c .before .before .before .before .before .before .before .before .before .before .before .before .before .before .before in
     let v = loop .inv in (
       st .pre .0,
-      v .0 .ahead .within,
-      ahead-go _ _ _ (loop .inv .0 .ahead) (sym (at-end .ensures) ∙ not-true _ (if1 .taken)),
-      scratch-kept _ _ _ _ _ _ _ _ (st .pre .2) (v .2) (v .3) (v .4) (v .5),
+      (
+        v .0 .ahead .within,
+        (
+          ahead-go _ _ _ (loop .inv .0 .ahead) (sym (at-end .ensures) ∙ not-true _ (if1 .taken)),
+          scratch-kept _ _ _ _ _ _ _ _ (st .pre .2) (v .2) (v .3) (v .4) (v .5),
+        ),
+      ),
     )
 
 enum-known-n : tie.Need-enum-known-n Inv-loop μ-loop

@@ -1,4 +1,4 @@
--- `search::search::search` judges the query, and lists what it hits if it is sound. Assumes nothing.
+-- `search::search::search` judges the query, and lists what it hits if it is good. Assumes nothing.
 use Rattle.answer.proofs.Outcomes.{fills-refused}
 use Rattle.search.proofs.Services.{query-sound, query-refused, search-refused}
 use borrow.Author.Needs.{needs}
@@ -20,8 +20,8 @@ returns c =
 enum-told : tie.Need-enum-told
 enum-told c = search needs
 
-search-sound-requires : tie.Need-search-sound-requires
-search-sound-requires c κs = query-sound _ (rw (c .before .enum-told .given .1) at (c .before .before .before .judge .ensures))
+search-good-requires : tie.Need-search-good-requires
+search-good-requires c κs = query-sound _ (rw (c .before .enum-told .given .1) at (c .before .before .before .judge .ensures))
 
 same-length : tie.Need-same-length
 same-length c = search needs
@@ -37,6 +37,6 @@ search-spec =
     enum-known-w
     returns
     enum-told
-    search-sound-requires
+    search-good-requires
     same-length
     returns-2)

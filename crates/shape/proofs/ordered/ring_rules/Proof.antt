@@ -37,7 +37,7 @@ turn-rule-requires c κs =
     let a = c .before .before .before .before .before .before .before .before .before .before .before .args in
     let os = outlinesOf (a .types .now) (a .counts .now) (a .lens .now) (a .xs .now) (a .ys .now) in
     let p = c .before .before .before .before .before .before .before .before .before .before .before .pre in
-    (p .0, p .1, p .2, grid-held os (rw (c .enum-told2 .given .1) at (c .before .before .grid-rule .ensures)))
+    (p, grid-held os (rw (c .enum-told2 .given .1) at (c .before .before .grid-rule .ensures)))
 
 returns-3 : tie.Need-returns-3
 returns-3 c =

@@ -4,7 +4,7 @@ use Prim.Native.Nat.{ℕ, _+_, _-_, _≤_, _<_}
 use native.Mathlib.Omega.{arith}
 use borrow.Author.Tests.{not-true, not-false}
 use lib.ListN.{length, getD, take, drop}
-use Rattle.answer.specs.Every.{allOf}
+use Rattle.answer.specs.All.{allOf}
 use Rattle.types.specs.Parts.{total}
 use Rattle.answer.proofs.Alls.{all-more, all-stop, all-here, all-done}
 use Rattle.shape.specs.Outline.{outlinesOf}
@@ -50,7 +50,7 @@ loop-holds : tie.Need-loop-holds Inv-loop μ-loop
 loop-holds c =
     let s = c .before .before .before .before .before in
     let a = s .args in
-    (walking-none (a .types .now) (a .counts .now) (a .lens .now) (a .xs .now) (a .ys .now) (s .pre .0) (s .pre .1), refl)
+    (walking-none (a .types .now) (a .counts .now) (a .lens .now) (a .xs .now) (a .ys .now) (s .pre .0 .parts) (s .pre .0 .same), refl)
 
 mul-e : tie.Need-mul-e Inv-loop μ-loop
 mul-e c = omega (arith, counted c)
@@ -133,8 +133,10 @@ shape-holds-requires c κs =
     let end = l .at + total′ .result in
     let g = ap (λ (n : ℕ). l .at + n) (total′ .ensures) in (
       walking-table (a .types .now) (a .counts .now) (a .lens .now) (a .xs .now) (a .ys .now) (l .i) (l .k) (l .at) (l .inv .0) t .known,
-      walking-cut (a .types .now) (a .counts .now) (a .lens .now) (a .xs .now) (a .ys .now) (l .i) (l .k) (l .at) (l .inv .0) t e end refl g,
-      all-here (readyFor (a .w)) (outlinesOf (a .types .now) (a .counts .now) (a .lens .now) (a .xs .now) (a .ys .now)) (l .i) _ (walking-stands (a .types .now) (a .counts .now) (a .lens .now) (a .xs .now) (a .ys .now) (l .i) (l .k) (l .at) (l .inv .0) t e end refl g) (pre .2),
+      (
+        walking-cut (a .types .now) (a .counts .now) (a .lens .now) (a .xs .now) (a .ys .now) (l .i) (l .k) (l .at) (l .inv .0) t e end refl g,
+        all-here (readyFor (a .w)) (outlinesOf (a .types .now) (a .counts .now) (a .lens .now) (a .xs .now) (a .ys .now)) (l .i) _ (walking-stands (a .types .now) (a .counts .now) (a .lens .now) (a .xs .now) (a .ys .now) (l .i) (l .k) (l .at) (l .inv .0) t e end refl g) (pre .1),
+      ),
     )
 
 returns : tie.Need-returns Inv-loop μ-loop

@@ -5,7 +5,7 @@ use native.Mathlib.Omega.{arith}
 use borrow.Author.Needs.{needs}
 use borrow.Author.Tests.{not-true, not-false}
 use lib.ListN.{length, drop, drop-of-length-le}
-use Rattle.answer.specs.Every.{allOf}
+use Rattle.answer.specs.All.{allOf}
 use Rattle.answer.proofs.Alls.{stands, all-more, all-stop, all-done}
 use Rattle.shape.specs.Which.{spares}
 use Rattle.shape.proofs.rules.spares_all.Statement.{statement}

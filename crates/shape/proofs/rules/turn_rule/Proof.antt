@@ -6,7 +6,7 @@ use Rattle.shape.proofs.rules.turn_rule.Statement.{statement}
 use Rattle.shape.proofs.rules.turn_rule.Tie as tie
 
 shapes-hold-requires : tie.Need-shapes-hold-requires
-shapes-hold-requires c κs = let p = c .before .before .before .before .before .pre in (p .0, p .1, ready-turns _ _ _ _ _ (p .2) (p .3))
+shapes-hold-requires c κs = let p = c .before .before .before .before .before .pre in (p .0, ready-turns _ _ _ _ _ (p .0 .few) (p .1))
 
 of-requires : tie.Need-of-requires
 of-requires c κs = search needs

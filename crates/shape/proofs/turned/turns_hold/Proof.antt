@@ -11,10 +11,10 @@ rings-turned-requires : tie.Need-rings-turned-requires
 unfolding onGridShape
 rings-turned-requires c κs =
     let s = c .before .before .before .before in
-    let g = decided _ _ (eq-eqb _ _ (c .if1 .taken)) (s .pre .2) in
+    let g = decided _ _ (eq-eqb _ _ (c .if1 .taken)) (s .pre .1 .1) in
     let x = allOnGrid (s .args .xs .now) in
     let y = allOnGrid (s .args .ys .now) in
-    (s .pre .0, record { same = s .pre .0 .same; few = s .pre .1; grid-x = both-l x y g; grid-y = both-r x y g })
+    (s .pre .0, record { same = s .pre .0 .same; few = s .pre .1 .0; grid-x = both-l x y g; grid-y = both-r x y g })
 
 returns : tie.Need-returns
 unfolding turnsHold

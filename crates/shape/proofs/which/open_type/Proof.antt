@@ -1,7 +1,7 @@
 -- `shape::which::open_type` looks at a type's row, if it has one. Assumes nothing.
 use mathlib.Core.Path.{ap}
 use mathlib.Core.Bool.{not}
-use Rattle.types.specs.declared.rows.Row.{Row}
+use Rattle.types.specs.declared.rows.TypeRow.{TypeRow}
 use Rattle.shape.proofs.Whiches.{open-over}
 use borrow.Author.Needs.{needs}
 use Rattle.shape.proofs.which.open_type.Statement.{statement}
@@ -11,7 +11,7 @@ row-of-requires : tie.Need-row-of-requires
 row-of-requires c κs = search needs
 
 returns : tie.Need-returns
-returns c = ap (λ (r : Row). not (r .closed)) (c .before .row-of .ensures)
+returns c = ap (λ (r : TypeRow). not (r .rings)) (c .before .row-of .ensures)
 
 returns-2 : tie.Need-returns-2
 returns-2 c = open-over (c .before .args .t) (c .if1 .left)

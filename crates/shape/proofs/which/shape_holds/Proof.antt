@@ -23,8 +23,8 @@ enum-told-3 c = search needs
 turns-hold-requires : tie.Need-turns-hold-requires
 turns-hold-requires c κs =
     let s = c .before .before .before .before .before in
-    let r = ready-turn _ _ (c .enum-told3 .given .1) (s .pre .2) in
-    (s .pre .1, r .0, r .1)
+    let r = ready-turn _ _ (c .enum-told3 .given .1) (s .pre .1 .1) in
+    (s .pre .1 .0, r)
 
 returns : tie.Need-returns
 returns c = c .rings-closed .ensures ∙ sym (test-ring _ _ (c .before .enum-told .given .1))
