@@ -1,4 +1,4 @@
--- Laws of a second walk over a file whose frame is sound, turn by turn: what is still to come from a cursor on. Assumes nothing.
+-- Laws of a second walk over a file whose frame is sound, block by block: what is still to come from a cursor on. Assumes nothing.
 use Prim.Native.Nat.{ℕ, suc, _-_, _<_}
 use mathlib.Core.Path.{_≡_, refl, sym, ap, subst, _∙_}
 use mathlib.Core.Bool.{true, false}
@@ -13,7 +13,7 @@ use Rattle.frame.specs.declared.cursor.PageAt.{PageAt}
 use Rattle.frame.specs.declared.walk.Checked.{Checked}
 use Rattle.frame.specs.declared.walk.Checked.the-variants.{Sound}
 use Rattle.frame.specs.declared.walk.Totals.{Totals}
-use Rattle.frame.specs.Step.{Turn, page, end, firstCursor, firstOf, stepOf, endsAt}
+use Rattle.frame.specs.Next.{NextBlock, page, end, firstCursor, firstOf, nextOf, endsAt}
 use Rattle.frame.specs.Frame.{Page, Frame, pageOf, walk, frameOf, totalsOf}
 use Rattle.frame.specs.Said.{saidChecked}
 use Rattle.frame.specs.Ahead.{Ahead, Begun}
@@ -63,29 +63,29 @@ module _ (s : List ℕ) (c : Cursor) (ps : List Page) (a : Ahead s c ps) where
   now-walked = rw (← fuel c (a .within)) (a .walked)
 
   -- a step is never refused
-  pub ahead-never : (w : Refusal) → stepOf s c ≡ refused w → ⊥
+  pub ahead-never : (w : Refusal) → nextOf s c ≡ refused w → ⊥
   ahead-never w e = never (sym (walk-refused s c (1024 - c .pages) w e) ∙ now-walked)
 
   -- so the block at the cursor has passed: it is the end, or a page
-  pub ahead-turn : (t : Turn) × (stepOf s c ≡ ok t)
-  ahead-turn = go (stepOf s c) refl
+  pub ahead-next : (t : NextBlock) × (nextOf s c ≡ ok t)
+  ahead-next = go (nextOf s c) refl
     where
-      go : (x : Out Turn) → stepOf s c ≡ x → (t : Turn) × (stepOf s c ≡ ok t)
+      go : (x : Out NextBlock) → nextOf s c ≡ x → (t : NextBlock) × (nextOf s c ≡ ok t)
       go (refused w) e = absurd (ahead-never w e)
       go (ok t) e = (t, e)
 
-  pub ahead-stop : endsAt s c ≡ true → stepOf s c ≡ ok end
-  ahead-stop h = let t = ahead-turn in ends-end s c (t .0) (t .1) h
+  pub ahead-stop : endsAt s c ≡ true → nextOf s c ≡ ok end
+  ahead-stop h = let t = ahead-next in ends-end s c (t .0) (t .1) h
 
-  pub ahead-go : endsAt s c ≡ false → (p : PageAt) × (stepOf s c ≡ ok (page p))
-  ahead-go h = let t = ahead-turn in ends-page s c (t .0) (t .1) h
+  pub ahead-go : endsAt s c ≡ false → (p : PageAt) × (nextOf s c ≡ ok (page p))
+  ahead-go h = let t = ahead-next in ends-page s c (t .0) (t .1) h
 
   -- at the end nothing is to come
-  pub ahead-end : stepOf s c ≡ ok end → ps ≡ []
+  pub ahead-end : nextOf s c ≡ ok end → ps ≡ []
   ahead-end e = ok-inj (sym now-walked ∙ walk-end s c (1024 - c .pages) e)
 
   -- a page that is found is the first of those to come, and from the cursor after it the others are to come
-  pub ahead-page : (p : PageAt) → stepOf s c ≡ ok (page p) → (qs : List Page) × (ps ≡ pageOf s p ∷ qs) × Ahead s (p .next) qs
+  pub ahead-page : (p : PageAt) → nextOf s c ≡ ok (page p) → (qs : List Page) × (ps ≡ pageOf s p ∷ qs) × Ahead s (p .next) qs
   ahead-page p e =
       let k = page-is s c p e in
       let b = on-ok _ _ ps (sym (walk-page s c (1024 - c .pages) p e) ∙ now-walked) in (
@@ -95,15 +95,15 @@ module _ (s : List ℕ) (c : Cursor) (ps : List Page) (a : Ahead s c ps) where
       )
 
   -- and the pages that may follow get fewer
-  pub ahead-fewer : (p : PageAt) → stepOf s c ≡ ok (page p) → 1025 - p .next .pages < 1025 - c .pages
+  pub ahead-fewer : (p : PageAt) → nextOf s c ≡ ok (page p) → 1025 - p .next .pages < 1025 - c .pages
   ahead-fewer p e = fewer-on s c (a .within) p (page-is s c p e)
 
 -- so, where pages are to come, a step finds the first of them; where none are, the end
 pub ahead-some : (s : List ℕ) (c : Cursor) (q : Page) (qs : List Page) → Ahead s c (q ∷ qs)
-    → (p : PageAt) × (stepOf s c ≡ ok (page p)) × (pageOf s p ≡ q) × Ahead s (p .next) qs
-ahead-some s c q qs a = go (stepOf s c) refl
+    → (p : PageAt) × (nextOf s c ≡ ok (page p)) × (pageOf s p ≡ q) × Ahead s (p .next) qs
+ahead-some s c q qs a = go (nextOf s c) refl
   where
-    go : (x : Out Turn) → stepOf s c ≡ x → (p : PageAt) × (stepOf s c ≡ ok (page p)) × (pageOf s p ≡ q) × Ahead s (p .next) qs
+    go : (x : Out NextBlock) → nextOf s c ≡ x → (p : PageAt) × (nextOf s c ≡ ok (page p)) × (pageOf s p ≡ q) × Ahead s (p .next) qs
     go (refused w) e = absurd (ahead-never s c (q ∷ qs) a w e)
     go (ok end) e = let n : _≡_ {A = ℕ} (suc (length qs)) 0 = ap length (ahead-end s c (q ∷ qs) a e) in absurd (omega arith)
     go (ok (page p)) e =
@@ -113,10 +113,10 @@ ahead-some s c q qs a = go (stepOf s c) refl
         let hs : k .0 ≡ qs = cc in
         (p, e, hq, subst (Ahead s (p .next)) hs (k .2))
 
-pub ahead-none : (s : List ℕ) (c : Cursor) → Ahead s c [] → stepOf s c ≡ ok end
-ahead-none s c a = go (stepOf s c) refl
+pub ahead-none : (s : List ℕ) (c : Cursor) → Ahead s c [] → nextOf s c ≡ ok end
+ahead-none s c a = go (nextOf s c) refl
   where
-    go : (x : Out Turn) → stepOf s c ≡ x → stepOf s c ≡ ok end
+    go : (x : Out NextBlock) → nextOf s c ≡ x → nextOf s c ≡ ok end
     go (refused w) e = absurd (ahead-never s c [] a w e)
     go (ok end) e = e
     go (ok (page p)) e =

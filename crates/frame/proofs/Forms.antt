@@ -5,7 +5,8 @@ use mathlib.Core.Bool.{Bool, true, false, cond}
 use lib.Dec.{eqb}
 use borrow.Author.Tests.{eq-eqb, ne-eqb, eqb-true}
 use Rattle.extent.specs.Rank.{finite}
-use Rattle.extent.specs.Boxes.{Bounds, FiniteBox, goodForm, spotOf}
+use Rattle.extent.specs.declared.bounds.Bounds.{Bounds}
+use Rattle.extent.specs.Boxes.{FiniteBox, goodForm, spotOf}
 use Rattle.extent.proofs.Tests.{all-four}
 use Rattle.extent.proofs.Forms.{spot-good, good-finite}
 use Rattle.frame.specs.Head.{allZero, boxOk}
@@ -15,12 +16,12 @@ use Rattle.frame.specs.Head.{allZero, boxOk}
 pub zero-is : (p : Bounds) → allZero p ≡ true → p ≡ spotOf 0 0
 unfolding allZero
 zero-is p e i =
-    let f = all-four (eqb (p .least-x) 0) (eqb (p .least-y) 0) (eqb (p .greatest-x) 0) (eqb (p .greatest-y) 0) e in
+    let f = all-four (eqb (p .«least_x») 0) (eqb (p .«least_y») 0) (eqb (p .«greatest_x») 0) (eqb (p .«greatest_y») 0) e in
     record {
-      least-x = eqb-true (p .least-x) 0 (f .0) i;
-      least-y = eqb-true (p .least-y) 0 (f .1) i;
-      greatest-x = eqb-true (p .greatest-x) 0 (f .2) i;
-      greatest-y = eqb-true (p .greatest-y) 0 (f .3) i;
+      «least_x» = eqb-true (p .«least_x») 0 (f .0) i;
+      «least_y» = eqb-true (p .«least_y») 0 (f .1) i;
+      «greatest_x» = eqb-true (p .«greatest_x») 0 (f .2) i;
+      «greatest_y» = eqb-true (p .«greatest_y») 0 (f .3) i;
     }
 
 -- they are a box too

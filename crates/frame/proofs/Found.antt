@@ -13,15 +13,15 @@ use Rattle.answer.specs.Refusal.{because}
 use Rattle.answer.specs.Outcome.{refused, ok}
 use Rattle.answer.proofs.Outcomes.{never, ok-inj, need-ok, on-ok, in-page-value, in-page-ok}
 use Rattle.answer.proofs.Both.{both-l, both-r, no-both}
-use Rattle.le.specs.declared.block.Block.{Block}
+use Rattle.block.specs.declared.Block.{Block}
 use Rattle.le.specs.Number.{numberAt}
-use Rattle.le.specs.Block.{blockAt}
-use Rattle.le.proofs.Blocks.{present-fits, block-found, block-says}
+use Rattle.block.specs.Block.{blockAt}
+use Rattle.block.proofs.Blocks.{present-fits, block-found, block-says}
 use Rattle.frame.specs.declared.cursor.Cursor.{Cursor}
 use Rattle.frame.specs.declared.cursor.PageAt.{PageAt}
 use Rattle.frame.specs.Head.{headOf}
-use Rattle.frame.specs.Step.{part, Turn, page, end, past, firstStep, firstOf, pageStep, endStep, kindStep, stepOf, endsAt}
-use Rattle.frame.proofs.Steps.{page-good, end-good, kind-page, kind-end, step-found, first-good, first-found, page-not-end, page-inj}
+use Rattle.frame.specs.Next.{part, NextBlock, page, end, past, asFirst, firstOf, asPage, asEnd, byKind, nextOf, endsAt}
+use Rattle.frame.proofs.Ways.{page-good, end-good, kind-page, kind-end, step-found, first-good, first-found, page-not-end, page-inj}
 
 -- ---- a block
 
@@ -52,7 +52,7 @@ pub record Begins (s : List ℕ) (c : Cursor) : Type 0 where
 
 module _ (s : List ℕ) (c : Cursor) where
   pub first-is : firstOf s ≡ ok c → Begins s c
-  unfolding firstOf firstStep
+  unfolding firstOf asFirst
   first-is e =
       let a = on-ok _ _ c e in
       let b : Block = a .0 in
@@ -96,8 +96,8 @@ pub record Ended (s : List ℕ) (c : Cursor) : Type 0 where
 
 module _ (s : List ℕ) (c : Cursor) where
   -- what a page block and an end block come to
-  page-step-is : (b : Block) (t : Turn) → b .kind ≡ 2 → Stands s (c .at) (b .kind) (b .body) (b .len) → pageStep s c b ≡ ok t → (p : PageAt) × (t ≡ page p) × Paged s c p
-  unfolding pageStep
+  page-step-is : (b : Block) (t : NextBlock) → b .kind ≡ 2 → Stands s (c .at) (b .kind) (b .body) (b .len) → asPage s c b ≡ ok t → (p : PageAt) × (t ≡ page p) × Paged s c p
+  unfolding asPage
   page-step-is b t k st e =
       let f = need-ok _ _ _ t e in
       let h = on-ok _ _ t (f .1) in (
@@ -111,8 +111,8 @@ module _ (s : List ℕ) (c : Cursor) where
         },
       )
 
-  end-step-is : (b : Block) (t : Turn) → b .kind ≡ 3 → Stands s (c .at) (b .kind) (b .body) (b .len) → endStep s c b ≡ ok t → (t ≡ end) × Ended s c
-  unfolding endStep
+  end-step-is : (b : Block) (t : NextBlock) → b .kind ≡ 3 → Stands s (c .at) (b .kind) (b .body) (b .len) → asEnd s c b ≡ ok t → (t ≡ end) × Ended s c
+  unfolding asEnd
   end-step-is b t k st e =
       let l = need-ok _ _ _ t e in
       let n = need-ok _ _ _ t (l .1) in
@@ -135,33 +135,33 @@ module _ (s : List ℕ) (c : Cursor) where
       )
 
   -- what a block that was found comes to, by its kind
-  kind-step-is : (b : Block) (t : Turn) → Stands s (c .at) (b .kind) (b .body) (b .len) → kindStep s c b ≡ ok t
+  kind-step-is : (b : Block) (t : NextBlock) → Stands s (c .at) (b .kind) (b .body) (b .len) → byKind s c b ≡ ok t
       → ((p : PageAt) × (t ≡ page p) × Paged s c p) ⊎ ((t ≡ end) × Ended s c)
-  unfolding kindStep
+  unfolding byKind
   kind-step-is b t st = go (eqb (b .kind) 2) (eqb (b .kind) 3) refl refl
     where
       go : (x y : Bool) → eqb (b .kind) 2 ≡ x → eqb (b .kind) 3 ≡ y
-          → cond x (pageStep s c b) (cond y (endStep s c b) (refused (because kind))) ≡ ok t
+          → cond x (asPage s c b) (cond y (asEnd s c b) (refused (because kind))) ≡ ok t
           → ((p : PageAt) × (t ≡ page p) × Paged s c p) ⊎ ((t ≡ end) × Ended s c)
       go true y ex ey e = inl (page-step-is b t (eqb-true (b .kind) 2 ex) st e)
       go false true ex ey e = inr (end-step-is b t (eqb-true (b .kind) 3 ey) st e)
       go false false ex ey e = absurd (never e)
 
   -- what a step comes to, where it is not refused
-  pub step-is : (t : Turn) → stepOf s c ≡ ok t → ((p : PageAt) × (t ≡ page p) × Paged s c p) ⊎ ((t ≡ end) × Ended s c)
-  unfolding stepOf
+  pub step-is : (t : NextBlock) → nextOf s c ≡ ok t → ((p : PageAt) × (t ≡ page p) × Paged s c p) ⊎ ((t ≡ end) × Ended s c)
+  unfolding nextOf
   step-is t e =
       let a = on-ok _ _ t (in-page-ok (c .pages) _ t e) in
       kind-step-is (a .0) t (block-is s (c .at) (a .0) (a .1)) (a .2)
 
-  pub page-is : (p : PageAt) → stepOf s c ≡ ok (page p) → Paged s c p
+  pub page-is : (p : PageAt) → nextOf s c ≡ ok (page p) → Paged s c p
   page-is p e =
       ⊎-elim
       (λ (k : (q : PageAt) × (page p ≡ page q) × Paged s c q). subst (Paged s c) (sym (page-inj (k .1))) (k .2))
       (λ (k : (page p ≡ end) × Ended s c). absurd (page-not-end (k .0)))
       (step-is (page p) e)
 
-  pub end-is : stepOf s c ≡ ok end → Ended s c
+  pub end-is : nextOf s c ≡ ok end → Ended s c
   end-is e =
       ⊎-elim
       (λ (k : (q : PageAt) × (end ≡ page q) × Paged s c q). absurd (page-not-end (sym (k .1))))
@@ -169,7 +169,7 @@ module _ (s : List ℕ) (c : Cursor) where
       (step-is end e)
 
   -- and back
-  pub is-page : (p : PageAt) → Paged s c p → stepOf s c ≡ ok (page p)
+  pub is-page : (p : PageAt) → Paged s c p → nextOf s c ≡ ok (page p)
   is-page p k =
       let b : Block = record { kind = 2; body = p .body; len = p .len } in
       step-found s c b (is-block s (c .at) 2 (p .body) (p .len) (k .stands))
@@ -178,7 +178,7 @@ module _ (s : List ℕ) (c : Cursor) where
       ∙ page-good s c b (k .few) (p .head) (k .headed)
       ∙ ap (λ (n : Cursor). ok (page (record { head = p .head; body = p .body; len = p .len; next = n }))) (sym (k .next)))
 
-  pub is-end : Ended s c → stepOf s c ≡ ok end
+  pub is-end : Ended s c → nextOf s c ≡ ok end
   is-end k =
       let b : Block = record { kind = 3; body = c .at + 6; len = 8 } in
       let ten : c .at + 6 + 4 ≡ c .at + 10 = omega arith in
@@ -191,7 +191,7 @@ module _ (s : List ℕ) (c : Cursor) where
   -- ---- what a walk asks of a block that has passed
 
   -- its head is there
-  pub step-there : (t : Turn) → stepOf s c ≡ ok t → c .at + 6 ≤ length s
+  pub step-there : (t : NextBlock) → nextOf s c ≡ ok t → c .at + 6 ≤ length s
   step-there t e =
       ⊎-elim
       (λ (k : (p : PageAt) × (t ≡ page p) × Paged s c p). let f = k .2 .stands in omega (arith, f .fits, f .body-at))
@@ -199,7 +199,7 @@ module _ (s : List ℕ) (c : Cursor) where
       (step-is t e)
 
   -- the end block stands there, or a page does
-  pub ends-end : (t : Turn) → stepOf s c ≡ ok t → endsAt s c ≡ true → stepOf s c ≡ ok end
+  pub ends-end : (t : NextBlock) → nextOf s c ≡ ok t → endsAt s c ≡ true → nextOf s c ≡ ok end
   unfolding endsAt
   ends-end t e h =
       ⊎-elim
@@ -209,7 +209,7 @@ module _ (s : List ℕ) (c : Cursor) where
       (λ (k : (t ≡ end) × Ended s c). e ∙ ap ok (k .0))
       (step-is t e)
 
-  pub ends-page : (t : Turn) → stepOf s c ≡ ok t → endsAt s c ≡ false → (p : PageAt) × (stepOf s c ≡ ok (page p))
+  pub ends-page : (t : NextBlock) → nextOf s c ≡ ok t → endsAt s c ≡ false → (p : PageAt) × (nextOf s c ≡ ok (page p))
   unfolding endsAt
   ends-page t e h =
       ⊎-elim

@@ -152,10 +152,10 @@ module _ (edition : ℕ) (b : List ℕ) (h : Head) where
       where
         words : Words (boundsAt b 6)
         words = unfold boundsAt in record {
-          least-x = number-at-lt 8 b 6 y;
-          least-y = number-at-lt 8 b 14 y;
-          greatest-x = number-at-lt 8 b 22 y;
-          greatest-y = number-at-lt 8 b 30 y;
+          «least_x» = number-at-lt 8 b 6 y;
+          «least_y» = number-at-lt 8 b 14 y;
+          «greatest_x» = number-at-lt 8 b 22 y;
+          «greatest_y» = number-at-lt 8 b 30 y;
         }
 
 -- ---- a head that is read by its numbers, where the rules have let it pass

@@ -2,7 +2,7 @@ pub mod Layouts
 pub mod Forms
 pub mod Counts
 pub mod Heads
-pub mod Steps
+pub mod Ways
 pub mod Found
 pub mod Walks
 pub mod Ahead

@@ -8,11 +8,11 @@ use native.Mathlib.Omega.{arith}
 use lib.ListN.{length, take, drop, length-append, length-drop, take-append-drop}
 use lib.Seq.{length-take-le, take-at, drop-drop, drop-append-add}
 use Rattle.le.specs.Number.{number, numberAt, bytesOf, Bytes}
-use Rattle.le.specs.Block.{blockHead}
+use Rattle.block.specs.Block.{blockHead}
 use Rattle.le.proofs.Numbers.{bytes-part}
 use Rattle.le.proofs.Bytes.{take-inside, bytes-number, number-at-append}
-use Rattle.le.proofs.Blocks.{length-head, head-len, head-kind}
-use Rattle.frame.specs.Step.{part}
+use Rattle.block.proofs.Blocks.{length-head, head-len, head-kind}
+use Rattle.frame.specs.Next.{part}
 use Rattle.frame.specs.Whole.{blockOf}
 use Rattle.frame.proofs.Found.{Stands}
 

@@ -14,26 +14,26 @@ use Rattle.frame.specs.declared.walk.FirstRead.the-variants as first
 use Rattle.frame.specs.declared.walk.Checked.{Checked}
 use Rattle.frame.specs.declared.walk.Checked.the-variants as checked
 use Rattle.frame.specs.declared.walk.Totals.{Totals}
-use Rattle.frame.specs.Step.{part, Turn, page, end, firstCursor, firstOf, stepOf}
+use Rattle.frame.specs.Next.{part, NextBlock, page, end, firstCursor, firstOf, nextOf}
 use Rattle.frame.specs.Frame.{Page, Frame, pageOf, walk, frameOf, shapesOf, pageTotals, totalsOf}
 use Rattle.frame.specs.Ahead.{Within}
 use Rattle.frame.specs.Said.{saidFirst, saidChecked}
 use Rattle.frame.proofs.Heads.{head-is, head-limits}
-use Rattle.frame.proofs.Steps.{first-said, first-refusal-said}
+use Rattle.frame.proofs.Ways.{first-said, first-refusal-said}
 use Rattle.frame.proofs.Found.{first-is, Paged, page-is}
 
 -- ---- one turn of the walk
 
 module _ (s : List ℕ) (c : Cursor) (n : ℕ) where
-  pub walk-refused : (w : Refusal) → stepOf s c ≡ refused w → walk (suc n) s c ≡ refused w
+  pub walk-refused : (w : Refusal) → nextOf s c ≡ refused w → walk (suc n) s c ≡ refused w
   unfolding walk on
   walk-refused w e = rw e
 
-  pub walk-end : stepOf s c ≡ ok end → walk (suc n) s c ≡ ok []
+  pub walk-end : nextOf s c ≡ ok end → walk (suc n) s c ≡ ok []
   unfolding walk on
   walk-end e = rw e
 
-  pub walk-page : (p : PageAt) → stepOf s c ≡ ok (page p) → walk (suc n) s c ≡ on (walk n s (p .next)) (λ ps. ok (pageOf s p ∷ ps))
+  pub walk-page : (p : PageAt) → nextOf s c ≡ ok (page p) → walk (suc n) s c ≡ on (walk n s (p .next)) (λ ps. ok (pageOf s p ∷ ps))
   unfolding walk on
   walk-page p e = rw e
 
@@ -64,11 +64,11 @@ pub fuel : (c : Cursor) → Within c → 1025 - c .pages ≡ suc (1024 - c .page
 fuel c w = omega (arith, w .pages)
 
 -- two walks that agree after a page agree before it
-same-turn : (k m : ℕ) (s : List ℕ) (c : Cursor) → ((p : PageAt) → stepOf s c ≡ ok (page p) → walk k s (p .next) ≡ walk m s (p .next))
+same-turn : (k m : ℕ) (s : List ℕ) (c : Cursor) → ((p : PageAt) → nextOf s c ≡ ok (page p) → walk k s (p .next) ≡ walk m s (p .next))
     → walk (suc k) s c ≡ walk (suc m) s c
-same-turn k m s c r = go (stepOf s c) refl
+same-turn k m s c r = go (nextOf s c) refl
   where
-    go : (t : Out Turn) → stepOf s c ≡ t → walk (suc k) s c ≡ walk (suc m) s c
+    go : (t : Out NextBlock) → nextOf s c ≡ t → walk (suc k) s c ≡ walk (suc m) s c
     go (refused v) e = walk-refused s c k v e ∙ sym (walk-refused s c m v e)
     go (ok end) e = walk-end s c k e ∙ sym (walk-end s c m e)
     go (ok (page p)) e = walk-page s c k p e ∙ ap (λ (x : Out (List Page)). on x (λ ps. ok (pageOf s p ∷ ps))) (r p e) ∙ sym (walk-page s c m p e)
@@ -120,11 +120,11 @@ count-more s from c p (ok ps) a b =
     λ i. ok (record { pages = m i; shapes = n i; first = from })
 
 module _ (s : List ℕ) (from c : Cursor) (w : Walking s from c) where
-  pub walking-refused : (x : Refusal) → stepOf s c ≡ refused x → saidChecked (checked.Refused x) ≡ on (walk 1025 s from) (λ ps. ok (pageTotals from ps))
+  pub walking-refused : (x : Refusal) → nextOf s c ≡ refused x → saidChecked (checked.Refused x) ≡ on (walk 1025 s from) (λ ps. ok (pageTotals from ps))
   unfolding saidChecked on
   walking-refused x e = sym (w .same ∙ rw (fuel c (w .within), walk-refused s c (1024 - c .pages) x e))
 
-  pub walking-end : stepOf s c ≡ ok end
+  pub walking-end : nextOf s c ≡ ok end
       → saidChecked (checked.Sound (record { pages = c .pages; shapes = c .shapes; first = from })) ≡ on (walk 1025 s from) (λ ps. ok (pageTotals from ps))
   unfolding saidChecked on shapesOf
   walking-end e =
@@ -132,7 +132,7 @@ module _ (s : List ℕ) (from c : Cursor) (w : Walking s from c) where
       let n : c .shapes + 0 ≡ c .shapes = omega arith in
       sym (w .same ∙ rw (fuel c (w .within), walk-end s c (1024 - c .pages) e) (λ i. ok (record { pages = m i; shapes = n i; first = from })))
 
-  module _ (p : PageAt) (e : stepOf s c ≡ ok (page p)) where
+  module _ (p : PageAt) (e : nextOf s c ≡ ok (page p)) where
     pub walking-fewer : 1025 - p .next .pages < 1025 - c .pages
     walking-fewer = fewer-on s c (w .within) p (page-is s c p e)
 

@@ -14,9 +14,9 @@ use Rattle.le.proofs.Bytes.{length-bytesOf, number-at-append, number-at-bytesOf
 use Rattle.frame.specs.declared.cursor.Cursor.{Cursor}
 use Rattle.frame.specs.declared.cursor.PageAt.{PageAt}
 use Rattle.frame.specs.Head.{headOf}
-use Rattle.frame.specs.Step.{part}
+use Rattle.frame.specs.Next.{part}
 use Rattle.frame.specs.Frame.{Page, Frame, pageOf, walk, frameOf, shapesOf}
-use Rattle.frame.specs.Whole.{blockOf, pageBlocks, endBlock, fileOf, Says, Every, none, more, IsFile}
+use Rattle.frame.specs.Whole.{blockOf, pageBlocks, endBlock, fileOf, Says, AllSay, none, more, IsFile}
 use Rattle.frame.proofs.Heads.{head-is, head-limits}
 use Rattle.frame.proofs.Found.{Stands, Begins, first-is, is-first, Paged, page-is, is-page, Ended, end-is, is-end}
 use Rattle.frame.proofs.Walks.{walk-end, walk-page}
@@ -27,7 +27,7 @@ use Rattle.frame.proofs.Parts.{bytes-at, length-part, length-block, put
 -- ---- the file of a frame is read
 
 -- at most 256 shapes a page
-pub shapes-le : (edition : ℕ) (ps : List Page) → Every edition ps → shapesOf ps ≤ 256 * length ps
+pub shapes-le : (edition : ℕ) (ps : List Page) → AllSay edition ps → shapesOf ps ≤ 256 * length ps
 unfolding shapesOf
 shapes-le edition [] none = omega arith
 shapes-le edition (p ∷ ps) (more k ks) =
@@ -103,7 +103,7 @@ page-put s pre rest c p e l h k =
     )
 
 -- the walk over what is left
-walk-put : (ps : List Page) (n : ℕ) (s pre : List ℕ) (c : Cursor) → Every (c .edition) ps
+walk-put : (ps : List Page) (n : ℕ) (s pre : List ℕ) (c : Cursor) → AllSay (c .edition) ps
     → s ≡ pre ++ (pageBlocks ps ++ endBlock (c .pages + length ps) (c .shapes + shapesOf ps)) → length pre ≡ c .at
     → c .pages + length ps ≤ 1024 → c .shapes + shapesOf ps < 2 ^ 32 → length ps < n → walk n s c ≡ ok ps
 unfolding pageBlocks shapesOf on
@@ -171,7 +171,7 @@ is-frame s f k =
 -- what is left from a cursor on
 record Rest (s : List ℕ) (c : Cursor) (ps : List Page) : Type 0 where
   same : drop (c .at) s ≡ pageBlocks ps ++ endBlock (c .pages + length ps) (c .shapes + shapesOf ps)
-  heads : Every (c .edition) ps
+  heads : AllSay (c .edition) ps
   few : c .pages + length ps ≤ 1024
 
 rest-none : (s : List ℕ) (c : Cursor) → Bytes s → c .pages ≤ 1024 → Ended s c → Rest s c []
@@ -219,7 +219,7 @@ rest-more s c p ps y k r =
             headed = k .headed;
             long = omega (arith, length-part s (p .body) (p .len) (st .fits), st .len-at, number-at-lt 4 s (c .at) y);
           })
-          (subst (λ (i : ℕ). Every i ps) ed (r .heads));
+          (subst (λ (i : ℕ). AllSay i ps) ed (r .heads));
       few = omega (arith, r .few, m);
     }
 
@@ -250,7 +250,7 @@ frame-is s f y e =
     record {
       edition = one;
       few = omega (arith, r .few, m);
-      heads = subst (λ (i : ℕ). Every i ps) ec (r .heads);
+      heads = subst (λ (i : ℕ). AllSay i ps) ec (r .heads);
       same =
           stands-block s 0 1 6 2 y (k .stands)
           ∙ ap₂ (λ (x z : List ℕ). blockOf 1 x ++ z) b

@@ -5,22 +5,24 @@ use mathlib.Core.Bool.{Bool, _&&_, _||_, cond}
 use mathlib.Core.List.{List}
 use lib.ListN.{length}
 use lib.Dec.{leb, eqb}
+use Rattle.answer.specs.Limits.{mostVertices, mostPageShapes}
 use Rattle.answer.specs.Table.{lengths, counts, boxForm}
 use Rattle.answer.specs.Refusal.{because}
 use Rattle.answer.specs.Outcome.{Out, ok, need}
 use Rattle.le.specs.Number.{numberAt}
-use Rattle.extent.specs.Boxes.{Bounds, boundsAt, goodForm}
+use Rattle.extent.specs.declared.bounds.Bounds.{Bounds}
+use Rattle.extent.specs.Boxes.{boundsAt, goodForm}
 use Rattle.extent.specs.Forms.{floatsOf}
 use Rattle.frame.specs.declared.head.Head.{Head}
-use Rattle.frame.specs.Layout.{layoutOf}
+use Rattle.frame.specs.Layout.{shapesPlace, verticesPlace, partsPlace, boundsPlace, firstBytes, secondSize, layoutOf}
 
 -- the limits: 1 to 256 shapes, at most 2,048 vertices, p ≤ v, and p = 0 only if v = 0
 unfoldable pub countsOk : ℕ → ℕ → ℕ → Bool
-countsOk g v p = leb 1 g && leb g 256 && leb v 2048 && leb p v && (leb 1 p || eqb v 0)
+countsOk g v p = leb 1 g && leb g mostPageShapes && leb v mostVertices && leb p v && (leb 1 p || eqb v 0)
 
 -- all zero bytes
 unfoldable pub allZero : Bounds → Bool
-allZero p = eqb (p .least-x) 0 && eqb (p .least-y) 0 && eqb (p .greatest-x) 0 && eqb (p .greatest-y) 0
+allZero p = eqb (p .«least_x») 0 && eqb (p .«least_y») 0 && eqb (p .«greatest_x») 0 && eqb (p .«greatest_y») 0
 
 -- the form of a box of v vertices: all zero bytes if v = 0, else finite and not reversed
 unfoldable pub boxOk : ℕ → Bounds → Bool
@@ -32,17 +34,17 @@ sizedHead edition b g v p =
     let l = layoutOf edition g p in
     need (leb (l .columns) (length b)) (because lengths)
     (let cx = numberAt 4 b (l .sizes) in
-    let cy = numberAt 4 b (l .sizes + 4) in
+    let cy = numberAt 4 b (l .sizes + secondSize) in
     need (eqb (length b) (l .columns + cx + cy)) (because lengths)
-    (need (boxOk v (boundsAt b 6)) (because boxForm)
-    (ok (record { g = g; v = v; p = p; bounds = floatsOf (boundsAt b 6); cx = cx; cy = cy; layout = l }))))
+    (need (boxOk v (boundsAt b boundsPlace)) (because boxForm)
+    (ok (record { g = g; v = v; p = p; bounds = floatsOf (boundsAt b boundsPlace); cx = cx; cy = cy; layout = l }))))
 
 -- the head of a body
 unfoldable pub headOf : ℕ → List ℕ → Out Head
 headOf edition b =
-    need (leb 38 (length b)) (because lengths)
-    (let g = numberAt 2 b 0 in
-    let v = numberAt 2 b 2 in
-    let p = numberAt 2 b 4 in
+    need (leb firstBytes (length b)) (because lengths)
+    (let g = numberAt 2 b shapesPlace in
+    let v = numberAt 2 b verticesPlace in
+    let p = numberAt 2 b partsPlace in
     need (countsOk g v p) (because counts)
     (sizedHead edition b g v p))

@@ -1,6 +1,6 @@
 pub mod Layout
 pub mod Head
-pub mod Step
+pub mod Next
 pub mod Frame
 pub mod Ahead
 pub mod Said

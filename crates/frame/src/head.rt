@@ -2,25 +2,36 @@
 ghost use mathlib.Core.Path.{_≡_};
 ghost use Prim.Native.Nat.{_+_, _≤_};
 ghost use lib.ListN.{length};
+ghost use Rattle.answer.specs.Limits.{mostVertices, mostPageShapes};
 ghost use Rattle.answer.specs.Outcome.{ok};
 ghost use Rattle.answer.specs.Rule.{judged, passed};
 ghost use Rattle.extent.specs.Boxes.{boundsAt, FiniteBox};
 ghost use Rattle.extent.specs.Forms.{floatsOf};
 ghost use Rattle.frame.specs.declared.head.Head.{Head};
+ghost use Rattle.frame.specs.Layout.{boundsPlace, firstBytes};
 ghost use Rattle.frame.specs.Head.{countsOk, allZero, boxOk, sizedHead, headOf};
+use crate::layout::BOUNDS;
+use crate::layout::FIRST;
 use crate::layout::Layout;
+use crate::layout::PARTS;
+use crate::layout::SECOND_SIZE;
+use crate::layout::SHAPES;
+use crate::layout::VERTICES;
 use crate::layout::layout_of;
 use answer::Refusal;
 use answer::Verdict;
+use answer::limits::MOST_PAGE_SHAPES;
+use answer::limits::MOST_VERTICES;
 use answer::table::BOX_FORM;
 use answer::table::COUNTS;
 use answer::table::LENGTHS;
+use extent::bounds::Bounds;
+use extent::bounds::bounds_at;
+use extent::bounds::good_patterns;
 use extent::boxes::Box;
-use extent::boxes::good_patterns;
-use extent::rank::float_of;
+use extent::boxes::box_with;
 use le::number::u16_at;
 use le::number::u32_at;
-use le::number::u64_at;
 
 // What stands before a page's shapes: how many shapes, vertices and parts, the box, the byte lengths of the two columns, and the layout.
 pub struct Head {
@@ -40,10 +51,10 @@ pub fn counts_ok(g: usize, v: usize, p: usize) -> bool
     if g < 1 {
         return false;
     }
-    if 256 < g {
+    if MOST_PAGE_SHAPES < g {
         return false;
     }
-    if 2048 < v {
+    if MOST_VERTICES < v {
         return false;
     }
     if v < p {
@@ -56,13 +67,13 @@ pub fn counts_ok(g: usize, v: usize, p: usize) -> bool
 }
 
 // Whether four patterns are all zero bytes.
-fn all_zero(least_x: u64, least_y: u64, greatest_x: u64, greatest_y: u64) -> bool
-    ensures { λ r. ⌜ r ≡ allZero (record { least-x = «least_x»; least-y = «least_y»; greatest-x = «greatest_x»; greatest-y = «greatest_y» }) ⌝ }
+fn all_zero(p: Bounds) -> bool
+    ensures { λ r. ⌜ r ≡ allZero p ⌝ }
 {
-    if least_x == 0 {
-        if least_y == 0 {
-            if greatest_x == 0 {
-                return greatest_y == 0;
+    if p.least_x == 0 {
+        if p.least_y == 0 {
+            if p.greatest_x == 0 {
+                return p.greatest_y == 0;
             }
         }
     }
@@ -71,22 +82,19 @@ fn all_zero(least_x: u64, least_y: u64, greatest_x: u64, greatest_y: u64) -> boo
 
 // Whether the box in a page's body is of the form that v vertices ask for.
 fn box_ok(v: usize, b: &[u8]) -> bool
-    requires { ⌜ 38 ≤ length (now b) ⌝ }
-    ensures { λ r. ⌜ r ≡ boxOk v (boundsAt (now (b .entry)) 6) ⌝ }
+    requires { ⌜ firstBytes ≤ length (now b) ⌝ }
+    ensures { λ r. ⌜ r ≡ boxOk v (boundsAt (now (b .entry)) boundsPlace) ⌝ }
 {
-    let least_x = u64_at(b, 6);
-    let least_y = u64_at(b, 14);
-    let greatest_x = u64_at(b, 22);
-    let greatest_y = u64_at(b, 30);
+    let p = bounds_at(b, BOUNDS);
     if v == 0 {
-        return all_zero(least_x, least_y, greatest_x, greatest_y);
+        return all_zero(p);
     }
-    good_patterns(least_x, least_y, greatest_x, greatest_y)
+    good_patterns(p)
 }
 
 // The rules of a body whose counts are read: its exact length, then the form of its box.
 fn sized_rules(edition: usize, b: &[u8], g: usize, v: usize, p: usize) -> Verdict
-    requires { ⌜ (38 ≤ length (now b)) × (g ≤ 256) × (p ≤ 2048) ⌝ }
+    requires { ⌜ (firstBytes ≤ length (now b)) × (g ≤ mostPageShapes) × (p ≤ mostVertices) ⌝ }
     ensures { λ r. ⌜ judged r ≡ passed (sizedHead edition (now (b .entry)) g v p) ⌝ }
 {
     let layout = layout_of(edition, g, p);
@@ -96,7 +104,7 @@ fn sized_rules(edition: usize, b: &[u8], g: usize, v: usize, p: usize) -> Verdic
         return Verdict::Refused(Refusal::because(LENGTHS));
     }
     let cx = u32_at(b, sizes);
-    let cy = u32_at(b, sizes + 4);
+    let cy = u32_at(b, sizes + SECOND_SIZE);
     if b.len() - columns != cx + cy {
         return Verdict::Refused(Refusal::because(LENGTHS));
     }
@@ -107,12 +115,12 @@ fn sized_rules(edition: usize, b: &[u8], g: usize, v: usize, p: usize) -> Verdic
 pub fn head_rules(edition: usize, b: &[u8]) -> Verdict
     ensures { λ r. ⌜ judged r ≡ passed (headOf edition (now (b .entry))) ⌝ }
 {
-    if b.len() < 38 {
+    if b.len() < FIRST {
         return Verdict::Refused(Refusal::because(LENGTHS));
     }
-    let g = u16_at(b, 0);
-    let v = u16_at(b, 2);
-    let p = u16_at(b, 4);
+    let g = u16_at(b, SHAPES);
+    let v = u16_at(b, VERTICES);
+    let p = u16_at(b, PARTS);
     if !counts_ok(g, v, p) {
         return Verdict::Refused(Refusal::because(COUNTS));
     }
@@ -124,12 +132,7 @@ pub(crate) fn box_at(s: &[u8], at: usize) -> Box
     requires { ⌜ (at + 32 ≤ length (now s)) × FiniteBox (boundsAt (now s) at) ⌝ }
     ensures { λ r. ⌜ r ≡ floatsOf (boundsAt (now (s .entry)) at) ⌝ }
 {
-    Box {
-        least_x: float_of(u64_at(s, at)),
-        least_y: float_of(u64_at(s, at + 8)),
-        greatest_x: float_of(u64_at(s, at + 16)),
-        greatest_y: float_of(u64_at(s, at + 24)),
-    }
+    box_with(bounds_at(s, at))
 }
 
 // The head of a body that the rules let pass.
@@ -137,18 +140,18 @@ pub(crate) fn read_head(edition: usize, b: &[u8]) -> Head
     requires { ⌜ ((h : Head) × (headOf edition (now b) ≡ ok h)) ⌝ }
     ensures { λ r. ⌜ headOf edition (now (b .entry)) ≡ ok r ⌝ }
 {
-    let g = u16_at(b, 0);
-    let v = u16_at(b, 2);
-    let p = u16_at(b, 4);
+    let g = u16_at(b, SHAPES);
+    let v = u16_at(b, VERTICES);
+    let p = u16_at(b, PARTS);
     let layout = layout_of(edition, g, p);
     let sizes = layout.sizes;
     Head {
         g,
         v,
         p,
-        bounds: box_at(b, 6),
+        bounds: box_at(b, BOUNDS),
         cx: u32_at(b, sizes),
-        cy: u32_at(b, sizes + 4),
+        cy: u32_at(b, sizes + SECOND_SIZE),
         layout,
     }
 }

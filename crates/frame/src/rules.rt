@@ -2,30 +2,34 @@
 ghost use mathlib.Core.Path.{_≡_};
 ghost use Prim.Native.Nat.{_+_, _≤_};
 ghost use lib.ListN.{length};
+ghost use Rattle.answer.specs.Limits.{mostPages};
 ghost use Rattle.answer.specs.Rule.{judged, passed};
-ghost use Rattle.frame.specs.Step.{pageStep, endStep, kindStep, stepOf};
+ghost use Rattle.frame.specs.Next.{asPage, asEnd, byKind, nextOf};
 use crate::cursor::Cursor;
 use crate::head::head_rules;
 use answer::Refusal;
 use answer::Verdict;
+use answer::limits::MOST_PAGES;
 use answer::table::COUNTS;
 use answer::table::KIND;
 use answer::table::LENGTHS;
 use answer::table::MANY;
-use le::block::Block;
-use le::block::block_in;
-use le::block::present;
+use block::Block;
+use block::block_in;
+use block::kinds::END;
+use block::kinds::PAGE;
+use block::present;
 use le::number::u32_at;
 
 // A page block.
-fn page_rules(s: &[u8], c: Cursor, b: Block) -> Verdict
+fn page_block_rules(s: &[u8], c: Cursor, b: Block) -> Verdict
     requires { ⌜ b .body + b .len ≤ length (now s) ⌝ }
-    ensures { λ r. ⌜ judged r ≡ passed (pageStep (now (s .entry)) c b) ⌝ }
+    ensures { λ r. ⌜ judged r ≡ passed (asPage (now (s .entry)) c b) ⌝ }
 {
     let pages = c.pages;
     let body = b.body;
     let len = b.len;
-    if 1024 <= pages {
+    if MOST_PAGES <= pages {
         return Verdict::Refused(Refusal::because(MANY));
     }
     let end = body + len;
@@ -35,7 +39,7 @@ fn page_rules(s: &[u8], c: Cursor, b: Block) -> Verdict
 // The end block.
 fn end_rules(s: &[u8], c: Cursor, b: Block) -> Verdict
     requires { ⌜ b .body + b .len ≤ length (now s) ⌝ }
-    ensures { λ r. ⌜ judged r ≡ passed (endStep (now (s .entry)) c b) ⌝ }
+    ensures { λ r. ⌜ judged r ≡ passed (asEnd (now (s .entry)) c b) ⌝ }
 {
     let body = b.body;
     let len = b.len;
@@ -56,13 +60,13 @@ fn end_rules(s: &[u8], c: Cursor, b: Block) -> Verdict
 // A block that is present, by its kind.
 fn kind_rules(s: &[u8], c: Cursor, b: Block) -> Verdict
     requires { ⌜ b .body + b .len ≤ length (now s) ⌝ }
-    ensures { λ r. ⌜ judged r ≡ passed (kindStep (now (s .entry)) c b) ⌝ }
+    ensures { λ r. ⌜ judged r ≡ passed (byKind (now (s .entry)) c b) ⌝ }
 {
     let kind = b.kind;
-    if kind == 2 {
-        return page_rules(s, c, b);
+    if kind == PAGE {
+        return page_block_rules(s, c, b);
     }
-    if kind == 3 {
+    if kind == END {
         return end_rules(s, c, b);
     }
     Verdict::Refused(Refusal::because(KIND))
@@ -70,8 +74,8 @@ fn kind_rules(s: &[u8], c: Cursor, b: Block) -> Verdict
 
 // The block at a cursor. A refusal's page is the number of pages before it.
 pub(crate) fn block_rules(s: &[u8], c: Cursor) -> Verdict
-    requires { ⌜ c .pages ≤ 1024 ⌝ }
-    ensures { λ r. ⌜ judged r ≡ passed (stepOf (now (s .entry)) c) ⌝ }
+    requires { ⌜ c .pages ≤ mostPages ⌝ }
+    ensures { λ r. ⌜ judged r ≡ passed (nextOf (now (s .entry)) c) ⌝ }
 {
     let at = c.at;
     let page = c.pages as u32;

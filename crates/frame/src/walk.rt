@@ -1,21 +1,24 @@
 // The walk over a file: the first block, then step by step to the end.
 ghost use mathlib.Core.Path.{_≡_};
-ghost use Prim.Native.Nat.{_+_, _≤_};
+ghost use Prim.Native.Nat.{suc, _+_, _≤_};
 ghost use lib.ListN.{length};
+ghost use Rattle.answer.specs.Limits.{mostPages};
 ghost use Rattle.answer.specs.Outcome.{on, ok, refused};
 ghost use Rattle.answer.specs.Refusal.{because};
-ghost use Rattle.frame.specs.Step.{firstStep, firstOf};
+ghost use Rattle.frame.specs.Next.{asFirst, firstOf};
 ghost use Rattle.frame.specs.Frame.{walk, pageTotals, frameOf, totalsOf};
 ghost use Rattle.frame.specs.Said.{saidFirst, saidChecked};
 use crate::cursor::Cursor;
+use crate::layout::EDITION;
 use crate::read::at_end;
 use crate::read::glance;
 use crate::rules::block_rules;
 use answer::Refusal;
 use answer::Verdict;
-use le::block::Block;
-use le::block::BlockRead;
-use le::block::block_at;
+use block::Block;
+use block::BlockRead;
+use block::block_at;
+use block::kinds::FIRST;
 use le::number::u16_at;
 
 // The cursor after the first block, or the refusal.
@@ -47,19 +50,19 @@ fn refused(number: u8) -> FirstRead
 // The first block, once it is found.
 fn first_step(s: &[u8], b: Block) -> FirstRead
     requires { ⌜ b .body + b .len ≤ length (now s) ⌝ }
-    ensures { λ r. ⌜ saidFirst r ≡ firstStep (now (s .entry)) b ⌝ }
+    ensures { λ r. ⌜ saidFirst r ≡ asFirst (now (s .entry)) b ⌝ }
 {
     let kind = b.kind;
     let body = b.body;
     let len = b.len;
-    if kind != 1 {
+    if kind != FIRST {
         return refused(answer::table::KIND);
     }
     if len != 2 {
         return refused(answer::table::LENGTHS);
     }
     let edition = u16_at(s, body);
-    if edition != 1 {
+    if edition != EDITION {
         return refused(answer::table::KIND);
     }
     FirstRead::After(Cursor {
@@ -83,7 +86,7 @@ fn first(s: &[u8]) -> FirstRead
 // The walk from a cursor to the end.
 fn walk_from(s: &[u8], from: Cursor) -> Checked
     requires { ⌜ (from .pages ≡ 0) × (from .shapes ≡ 0) ⌝ }
-    ensures { λ r. ⌜ saidChecked r ≡ on (walk 1025 (now (s .entry)) from) (λ ps. ok (pageTotals from ps)) ⌝ }
+    ensures { λ r. ⌜ saidChecked r ≡ on (walk (suc mostPages) (now (s .entry)) from) (λ ps. ok (pageTotals from ps)) ⌝ }
 {
     let mut c = from;
     loop {

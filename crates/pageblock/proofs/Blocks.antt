@@ -19,12 +19,12 @@ use Rattle.pageblock.specs.Body.{Handed, pageBytes}
 use Rattle.pageblock.specs.Page.{pageRules, pageWritten, roomFor, pageBlockOf}
 use Rattle.pageblock.proofs.Passing.{Passed, rules-passed}
 
-module _ (i : Handed) where
-  pub page-refused : (w : Refusal) → judged (verdict.Refused w) ≡ pageRules i → pageWritten i ≡ refused w
+module _ (ed : ℕ) (i : Handed) where
+  pub page-refused : (w : Refusal) → judged (verdict.Refused w) ≡ pageRules i → pageWritten ed i ≡ refused w
   unfolding pageWritten
   page-refused w e = then-refused _ _ w e
 
-  pub page-ok : judged verdict.Holds ≡ pageRules i → pageWritten i ≡ ok (pageBytes i)
+  pub page-ok : judged verdict.Holds ≡ pageRules i → pageWritten ed i ≡ ok (pageBytes ed i)
   unfolding pageWritten
   page-ok e = then-holds _ _ e
 
@@ -32,29 +32,29 @@ module _ (i : Handed) where
   page-passed e = rules-passed i tt (sym e ∙ judged-holds)
 
   -- where it is a value, that is the page's bytes, and the rules have passed
-  pub page-ok-is : (bytes : List ℕ) → pageWritten i ≡ ok bytes → (bytes ≡ pageBytes i) × (pageRules i ≡ ok tt)
+  pub page-ok-is : (bytes : List ℕ) → pageWritten ed i ≡ ok bytes → (bytes ≡ pageBytes ed i) × (pageRules i ≡ ok tt)
   unfolding pageWritten
   page-ok-is bytes e =
       let a = on-ok _ _ _ e in
       (sym (ok-inj (a .2)), a .1)
 
   -- the same page has the same bytes, whoever writes it
-  pub page-one : (b c : List ℕ) → pageWritten i ≡ ok b → pageWritten i ≡ ok c → b ≡ c
+  pub page-one : (b c : List ℕ) → pageWritten ed i ≡ ok b → pageWritten ed i ≡ ok c → b ≡ c
   page-one b c e f = page-ok-is b e .0 ∙ sym (page-ok-is c f .0)
 
   module _ (room : ℕ) where
-    pub block-refused : (w : Refusal) → judged (verdict.Refused w) ≡ pageRules i → pageBlockOf room i ≡ refused w
+    pub block-refused : (w : Refusal) → judged (verdict.Refused w) ≡ pageRules i → pageBlockOf ed room i ≡ refused w
     unfolding pageBlockOf
     block-refused w e = on-refused _ _ w (page-refused w e)
 
     module _ (e : judged verdict.Holds ≡ pageRules i) where
-      pub block-room : room < length (pageBytes i) → pageBlockOf room i ≡ refused (because table.room)
+      pub block-room : room < length (pageBytes ed i) → pageBlockOf ed room i ≡ refused (because table.room)
       unfolding pageBlockOf roomFor
-      block-room h = on-value _ _ (pageBytes i) (page-ok e) ∙ unmet (because table.room) _ (lt-leb (length (pageBytes i)) room h)
+      block-room h = on-value _ _ (pageBytes ed i) (page-ok e) ∙ unmet (because table.room) _ (lt-leb (length (pageBytes ed i)) room h)
 
-      pub block-ok : length (pageBytes i) ≤ room → pageBlockOf room i ≡ ok (pageBytes i)
+      pub block-ok : length (pageBytes ed i) ≤ room → pageBlockOf ed room i ≡ ok (pageBytes ed i)
       unfolding pageBlockOf roomFor
-      block-ok h = on-value _ _ (pageBytes i) (page-ok e) ∙ met (because table.room) _ (le-leb (length (pageBytes i)) room h)
+      block-ok h = on-value _ _ (pageBytes ed i) (page-ok e) ∙ met (because table.room) _ (le-leb (length (pageBytes ed i)) room h)
 
 -- bytes put from the first on stand at the start
 pub put-start : (l d e : List ℕ) (n : ℕ) → n ≡ length l → n ≤ length d → e ≡ sets d 0 l → e ≡ l ++ drop n d

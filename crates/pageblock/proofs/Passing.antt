@@ -25,7 +25,7 @@ use Rattle.frame.proofs.Counts.{Limits, counts-limits}
 use Rattle.answer.proofs.Orders.{on-refused, on-value, then-refused, then-holds}
 use Rattle.pageblock.specs.Body.{Handed}
 use Rattle.pageblock.specs.Page.{slicesAgree, countsHold, countsRule, outlines, pageRules}
-use Rattle.pageblock.specs.Ready.{Even, Sound}
+use Rattle.pageblock.specs.Ready.{Even, FiniteVertices}
 
 -- ---- 6
 
@@ -118,7 +118,7 @@ rules-passed i u e =
       outlined = b .2;
     }
 
-pub passed-sound : (i : Handed) → Passed i → Sound (i .xs) (i .ys)
+pub passed-sound : (i : Handed) → Passed i → FiniteVertices (i .xs) (i .ys)
 unfolding outlineRules finiteRule
 passed-sound i p =
     let a = on-ok _ _ _ (p .outlined) in

@@ -7,15 +7,19 @@ use lib.ListN.{length, length-append}
 use Rattle.le.specs.Number.{bytesOf, runOf}
 use Rattle.le.proofs.Bytes.{length-bytesOf}
 use Rattle.le.proofs.Runs.{length-run}
+use Rattle.width.specs.Width.{widthOf}
+use Rattle.column.specs.declared.write.Fitted.{Fitted}
 use Rattle.column.specs.Column.{encode}
-use Rattle.extent.specs.Boxes.{Bounds, boxOf}
+use Rattle.extent.specs.declared.bounds.Bounds.{Bounds}
+use Rattle.extent.specs.Boxes.{boxOf}
 use Rattle.column.proofs.Trips.{bytes-most}
+use Rattle.block.specs.Kinds as kinds
 use Rattle.frame.specs.declared.layout.Layout.{Layout}
-use Rattle.frame.specs.Layout.{layoutOf}
-use Rattle.frame.proofs.Layouts.{columns-at, columns-le, columns-one}
+use Rattle.frame.specs.Layout.{firstBytes, each, layoutOf}
+use Rattle.frame.proofs.Layouts.{registers-le, columns-at, columns-le, columns-are}
 use Rattle.frame.proofs.Parts.{length-block}
 use Rattle.pageblock.specs.Body.{Handed, countBytes, boxBytes, tableBytes, columnBytes, bodyOf, pageBytes}
-use Rattle.pageblock.specs.Ready.{Even}
+use Rattle.pageblock.specs.Ready.{Even, Laid, Sized}
 use Rattle.pageblock.proofs.Passing.{even-limits}
 
 pub length-counts : (g v p : ℕ) → length (countBytes g v p) ≡ 6
@@ -27,25 +31,25 @@ length-counts g v p =
 pub length-box : (b : Bounds) → length (boxBytes b) ≡ 32
 unfolding boxBytes
 length-box b =
-    length-append (bytesOf 8 (b .least-x)) (bytesOf 8 (b .least-y) ++ (bytesOf 8 (b .greatest-x) ++ bytesOf 8 (b .greatest-y)))
+    length-append (bytesOf 8 (b .«least_x»)) (bytesOf 8 (b .«least_y») ++ (bytesOf 8 (b .«greatest_x») ++ bytesOf 8 (b .«greatest_y»)))
     ∙ omega (
       arith,
-      length-bytesOf 8 (b .least-x),
-      length-append (bytesOf 8 (b .least-y)) (bytesOf 8 (b .greatest-x) ++ bytesOf 8 (b .greatest-y)),
-      length-bytesOf 8 (b .least-y),
-      length-append (bytesOf 8 (b .greatest-x)) (bytesOf 8 (b .greatest-y)),
-      length-bytesOf 8 (b .greatest-x),
-      length-bytesOf 8 (b .greatest-y),
+      length-bytesOf 8 (b .«least_x»),
+      length-append (bytesOf 8 (b .«least_y»)) (bytesOf 8 (b .«greatest_x») ++ bytesOf 8 (b .«greatest_y»)),
+      length-bytesOf 8 (b .«least_y»),
+      length-append (bytesOf 8 (b .«greatest_x»)) (bytesOf 8 (b .«greatest_y»)),
+      length-bytesOf 8 (b .«greatest_x»),
+      length-bytesOf 8 (b .«greatest_y»),
     )
 
-pub length-tables : (registers types counts lens : List ℕ)
-    → length (tableBytes registers types counts lens) ≡ 4 * length registers + length types + 2 * length counts + 2 * length lens
+pub length-tables : (k : ℕ) (registers types counts lens : List ℕ)
+    → length (tableBytes k registers types counts lens) ≡ k * length registers + length types + 2 * length counts + 2 * length lens
 unfolding tableBytes
-length-tables registers types counts lens =
-    length-append (runOf 4 registers) (types ++ (runOf 2 counts ++ runOf 2 lens))
+length-tables k registers types counts lens =
+    length-append (runOf k registers) (types ++ (runOf 2 counts ++ runOf 2 lens))
     ∙ omega (
       arith,
-      length-run 4 registers,
+      length-run k registers,
       length-append types (runOf 2 counts ++ runOf 2 lens),
       length-append (runOf 2 counts) (runOf 2 lens),
       length-run 2 counts,
@@ -67,13 +71,13 @@ length-columns xs ys =
     )
 
 -- the whole body
-pub length-body : (i : Handed) → length (bodyOf i)
-    ≡ 46 + (4 * length (i .registers) + length (i .types) + 2 * length (i .counts) + 2 * length (i .lens)) + length (encode 64 (i .xs)) + length (encode 64 (i .ys))
+pub length-body : (ed : ℕ) (i : Handed) → length (bodyOf ed i)
+    ≡ 46 + (each ed * length (i .registers) + length (i .types) + 2 * length (i .counts) + 2 * length (i .lens)) + length (encode 64 (i .xs)) + length (encode 64 (i .ys))
 unfolding bodyOf
-length-body i =
+length-body ed i =
     let c = countBytes (length (i .registers)) (length (i .xs)) (length (i .lens)) in
     let b = boxBytes (boxOf (i .xs) (i .ys)) in
-    let t = tableBytes (i .registers) (i .types) (i .counts) (i .lens) in
+    let t = tableBytes (each ed) (i .registers) (i .types) (i .counts) (i .lens) in
     let k = columnBytes (i .xs) (i .ys) in
     length-append c (b ++ (t ++ k))
     ∙ omega (
@@ -82,30 +86,46 @@ length-body i =
       length-append b (t ++ k),
       length-box (boxOf (i .xs) (i .ys)),
       length-append t k,
-      length-tables (i .registers) (i .types) (i .counts) (i .lens),
+      length-tables (each ed) (i .registers) (i .types) (i .counts) (i .lens),
       length-columns (i .xs) (i .ys),
     )
 
 -- ---- by the layout
 
-module _ (i : Handed) (l : Layout) (e : l ≡ layoutOf 1 (length (i .registers)) (length (i .lens))) where
+module _ (ed : ℕ) (i : Handed) (l : Layout) (e : l ≡ layoutOf ed (length (i .registers)) (length (i .lens))) where
   -- the tables stand behind the counts and the box
-  pub tables-from : l .registers ≡ 38
+  pub tables-from : l .registers ≡ firstBytes
   unfolding layoutOf
   tables-from = rw e
 
+  -- as far apart as the edition says
+  pub each-of : l .each ≡ each ed
+  unfolding layoutOf
+  each-of = rw e
+
+  -- one behind the other
+  pub laid : Even i → Laid l (i .registers) (i .types) (i .counts) (i .lens)
+  unfolding layoutOf each
+  laid v = record {
+    one = rw e;
+    types-at = rw e;
+    counts-at = rw (e, v .types-even);
+    lens-at = rw (e, v .counts-even);
+    sizes-at = rw e;
+  }
+
   module _ (v : Even i) where
     -- the byte lengths behind the tables
-    pub sizes-at : l .sizes ≡ 38 + length (tableBytes (i .registers) (i .types) (i .counts) (i .lens))
+    pub sizes-at : l .sizes ≡ 38 + length (tableBytes (each ed) (i .registers) (i .types) (i .counts) (i .lens))
     sizes-at =
         let g = length (i .registers) in
         let p = length (i .lens) in
         omega (
           arith,
           ap (λ (x : Layout). x .sizes) e,
-          columns-at 1 g p,
-          columns-one g p,
-          length-tables (i .registers) (i .types) (i .counts) (i .lens),
+          columns-at ed g p,
+          columns-are ed g p,
+          length-tables (each ed) (i .registers) (i .types) (i .counts) (i .lens),
           v .types-even,
           v .counts-even,
         )
@@ -117,7 +137,8 @@ module _ (i : Handed) (l : Layout) (e : l ≡ layoutOf 1 (length (i .registers))
         omega (
           arith,
           sizes-at,
-          length-tables (i .registers) (i .types) (i .counts) (i .lens),
+          length-tables (each ed) (i .registers) (i .types) (i .counts) (i .lens),
+          registers-le ed (length (i .registers)) (m .few),
           v .types-even,
           v .counts-even,
           m .few,
@@ -126,11 +147,11 @@ module _ (i : Handed) (l : Layout) (e : l ≡ layoutOf 1 (length (i .registers))
         )
 
     -- and the columns end the body
-    pub body-size : (cx cy : ℕ) → cx ≡ length (encode 64 (i .xs)) → cy ≡ length (encode 64 (i .ys)) → l .columns + cx + cy ≡ length (bodyOf i)
+    pub body-size : (cx cy : ℕ) → cx ≡ length (encode 64 (i .xs)) → cy ≡ length (encode 64 (i .ys)) → l .columns + cx + cy ≡ length (bodyOf ed i)
     body-size cx cy x y =
         let g = length (i .registers) in
         let p = length (i .lens) in
-        omega (arith, ap (λ (k : Layout). k .columns) e, columns-one g p, length-body i, v .types-even, v .counts-even, x, y)
+        omega (arith, ap (λ (k : Layout). k .columns) e, columns-are ed g p, length-body ed i, v .types-even, v .counts-even, x, y)
 
     -- which is not long
     pub columns-few : l .columns ≤ 6958
@@ -138,13 +159,17 @@ module _ (i : Handed) (l : Layout) (e : l ≡ layoutOf 1 (length (i .registers))
         let g = length (i .registers) in
         let p = length (i .lens) in
         let m = even-limits i v in
-        omega (arith, ap (λ (k : Layout). k .columns) e, columns-le 1 g p (m .few) (omega (arith, m .parts, m .vertices)))
+        omega (arith, ap (λ (k : Layout). k .columns) e, columns-le ed g p (m .few) (omega (arith, m .parts, m .vertices)))
+
+-- a column that was measured
+pub sized : (vs : List ℕ) (f : Fitted) → f .width ≡ widthOf 64 vs → f .bytes ≡ length (encode 64 vs) → Sized vs f
+sized vs f w b = record { width = w; size = b }
 
 -- a column of a page is no longer than one of 2,048 values
 pub column-most : (vs : List ℕ) → length vs ≤ 2048 → length (encode 64 vs) ≤ 16385
 column-most vs h = omega (arith, bytes-most vs)
 
 -- the block's size
-pub length-page : (i : Handed) → length (pageBytes i) ≡ 6 + length (bodyOf i)
+pub length-page : (ed : ℕ) (i : Handed) → length (pageBytes ed i) ≡ 6 + length (bodyOf ed i)
 unfolding pageBytes
-length-page i = length-block 2 (bodyOf i)
+length-page ed i = length-block kinds.page (bodyOf ed i)

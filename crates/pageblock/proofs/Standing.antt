@@ -5,7 +5,7 @@ use mathlib.Core.List.{List, _∷_, _++_}
 use native.Mathlib.Nat.{mod-eq-of-lt, add-assoc, add-zero}
 use lib.ListN.{length, getD, take, drop}
 use lib.Seq.{drop-drop, drop-at, take-at}
-use Rattle.le.specs.Number.{number, bytesOf, numberAt, numbersAt, runOf}
+use Rattle.le.specs.Number.{Fits, number, bytesOf, numberAt, numbersEach, numbersAt, runOf}
 use Rattle.le.proofs.Bytes.{number-at-bytesOf}
 use Rattle.le.proofs.Runs.{numbers-run}
 
@@ -20,12 +20,12 @@ number-stands k x s r at h e = ap (λ (l : List ℕ). number (take k l)) e ∙ n
 
 -- a run, read from a place on, is read from the first byte on of what stands there
 numbers-drop : (k n : ℕ) (s : List ℕ) (a j : ℕ) → numbersAt k n (drop a s) j ≡ numbersAt k n s (a + j)
-unfolding numbersAt numberAt
+unfolding numbersEach numberAt
 numbers-drop k zero s a j = refl
 numbers-drop k (suc n) s a j =
     ap₂ _∷_ (ap (λ (l : List ℕ). number (take k l)) (drop-drop j a s)) (numbers-drop k n s a (j + k) ∙ ap (numbersAt k n s) (sym (add-assoc a j k)))
 
-pub numbers-stand : (k : ℕ) (xs s r : List ℕ) (at n : ℕ) → n ≡ length xs → ((j : ℕ) → getD xs j 0 < 2 ^ (8 * k)) → drop at s ≡ runOf k xs ++ r → numbersAt k n s at ≡ xs
+pub numbers-stand : (k : ℕ) (xs s r : List ℕ) (at n : ℕ) → n ≡ length xs → Fits (8 * k) xs → drop at s ≡ runOf k xs ++ r → numbersAt k n s at ≡ xs
 numbers-stand k xs s r at n z h e =
     ap (numbersAt k n s) (sym (add-zero at))
     ∙ sym (numbers-drop k n s at 0)

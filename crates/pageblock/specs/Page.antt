@@ -38,14 +38,14 @@ pageRules i =
     on (partsRule (i .types) (i .counts) (i .lens) (length (i .xs))) (λ _.
     outlineRules (outlines i) (i .xs) (i .ys)))
 
--- the bytes of a page's block, where the rules let it pass
-unfoldable pub pageWritten : Handed → Out (List ℕ)
-pageWritten i = on (pageRules i) (λ _. ok (pageBytes i))
+-- the bytes of a page's block in an edition, where the rules let it pass
+unfoldable pub pageWritten : ℕ → Handed → Out (List ℕ)
+pageWritten edition i = on (pageRules i) (λ _. ok (pageBytes edition i))
 
 -- 2: bytes for a lent room of so many
 unfoldable pub roomFor : ℕ → List ℕ → Out (List ℕ)
 roomFor room bytes = need (leb (length bytes) room) (because table.room) (ok bytes)
 
 -- a page's block for a lent room
-unfoldable pub pageBlockOf : ℕ → Handed → Out (List ℕ)
-pageBlockOf room i = on (pageWritten i) (roomFor room)
+unfoldable pub pageBlockOf : ℕ → ℕ → Handed → Out (List ℕ)
+pageBlockOf edition room i = on (pageWritten edition i) (roomFor room)

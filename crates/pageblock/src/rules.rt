@@ -1,7 +1,7 @@
 // The rules of a page that is handed in, in order. They are the checker's own.
 ghost use mathlib.Core.Path.{_≡_};
 ghost use Rattle.answer.specs.Rule.{judged};
-ghost use Rattle.pageblock.specs.Body.{handedWith};
+ghost use Rattle.pageblock.specs.Body.{handed};
 ghost use Rattle.pageblock.specs.Page.{countsHold, pageRules};
 use answer::Refusal;
 use answer::Verdict;
@@ -19,7 +19,7 @@ fn counts_hold(
     xs: &[u64],
     ys: &[u64],
 ) -> bool
-    ensures { λ r. ⌜ r ≡ countsHold (handedWith (now (registers .entry)) (now (types .entry)) (now (counts .entry)) (now (lens .entry)) (now (xs .entry)) (now (ys .entry))) ⌝ }
+    ensures { λ r. ⌜ r ≡ countsHold (handed registers types counts lens xs ys) ⌝ }
 {
     if types.len() != registers.len() {
         return false;
@@ -42,7 +42,7 @@ pub fn page_rules(
     xs: &[u64],
     ys: &[u64],
 ) -> Verdict
-    ensures { λ r. ⌜ judged r ≡ pageRules (handedWith (now (registers .entry)) (now (types .entry)) (now (counts .entry)) (now (lens .entry)) (now (xs .entry)) (now (ys .entry))) ⌝ }
+    ensures { λ r. ⌜ judged r ≡ pageRules (handed registers types counts lens xs ys) ⌝ }
 {
     if !counts_hold(registers, types, counts, lens, xs, ys) {
         return Verdict::Refused(Refusal::because(COUNTS));

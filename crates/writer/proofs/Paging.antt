@@ -17,6 +17,7 @@ use Rattle.answer.specs.Refusal.{because}
 use Rattle.answer.specs.Outcome.{Out, refused, ok, need, on, filled, answered, Fills}
 use Rattle.answer.proofs.Outcomes.{ok-inj, need-ok, on-ok}
 use Rattle.answer.proofs.Orders.{on-refused, on-value}
+use Rattle.frame.specs.Layout.{theEdition}
 use Rattle.pageblock.specs.Body.{Handed}
 use Rattle.pageblock.specs.Page.{pageWritten, roomFor, pageBlockOf}
 use Rattle.pageblock.proofs.Passing.{even-limits, rules-passed}
@@ -96,10 +97,10 @@ rest-put d bytes e at n h k q =
 -- ---- the step, by the block for the rest
 
 -- a page that passes is no empty block
-page-some : (i : Handed) (bytes : List ℕ) → pageWritten i ≡ ok bytes → 0 < length bytes
-page-some i bytes e = omega (arith, ap length (page-ok-is i bytes e .0), length-page i)
+page-some : (i : Handed) (bytes : List ℕ) → pageWritten theEdition i ≡ ok bytes → 0 < length bytes
+page-some i bytes e = omega (arith, ap length (page-ok-is theEdition i bytes e .0), length-page theEdition i)
 
-block-page : (room : ℕ) (i : Handed) (bytes : List ℕ) → pageBlockOf room i ≡ ok bytes → (pageWritten i ≡ ok bytes) × (length bytes ≤ room)
+block-page : (room : ℕ) (i : Handed) (bytes : List ℕ) → pageBlockOf theEdition room i ≡ ok bytes → (pageWritten theEdition i ≡ ok bytes) × (length bytes ≤ room)
 unfolding pageBlockOf roomFor
 block-page room i bytes e =
     let a = on-ok _ _ _ e in
@@ -129,33 +130,33 @@ module _ (st : Writer) (d : List ℕ) (i : Handed) (from : ℕ) (ef : from ≡ s
   next : List ℕ → Writer
   next bytes = stateWith (st .position + length bytes) (st .pages + 1) (st .shapes + length (i .registers)) false
 
-  by-block : pageStepOf st (length d) i ≡ on (pageBlockOf (length rest) i) (λ (bytes : List ℕ). ok (added (next bytes) (st .position) bytes))
+  by-block : pageStepOf st (length d) i ≡ on (pageBlockOf theEdition (length rest) i) (λ (bytes : List ℕ). ok (added (next bytes) (st .position) bytes))
   unfolding pageBlockOf next
   by-block =
       page-rest st (length d) i o h k
-      ∙ put-on (pageWritten i) (length rest) (length d) (st .position) next
-      (λ (bytes : List ℕ) (e : pageWritten i ≡ ok bytes). ap (leb (length bytes)) length-rest ∙ fits-same (st .position) (length d) (length bytes) (page-some i bytes e))
+      ∙ put-on (pageWritten theEdition i) (length rest) (length d) (st .position) next
+      (λ (bytes : List ℕ) (e : pageWritten theEdition i ≡ ok bytes). ap (leb (length bytes)) length-rest ∙ fits-same (st .position) (length d) (length bytes) (page-some i bytes e))
 
   -- what the block refuses the step refuses
-  pub page-refused : (w : Refusal) (left : List ℕ) → Fills (pageBlockOf (length (take (length d - from) (drop from d))) i) (take (length d - from) (drop from d)) (Refused w) left
+  pub page-refused : (w : Refusal) (left : List ℕ) → Fills (pageBlockOf theEdition (length (take (length d - from) (drop from d))) i) (take (length d - from) (drop from d)) (Refused w) left
       → Steps (pageStepOf st (length d) i) st d (record { writer = st; verdict = verdict.Refused w }) (putMid from (length d - from) d left)
   page-refused w left f =
-      let p = filled-refused (pageBlockOf (length rest) i) rest w left f in
+      let p = filled-refused (pageBlockOf theEdition (length rest) i) rest w left f in
       let q : putMid from (length d - from) d left ≡ d = ap (putMid from (length d - from) d) (p .1) ∙ put-same from (length d - from) d in
       subst (λ (e : List ℕ). Steps (pageStepOf st (length d) i) st d (record { writer = st; verdict = verdict.Refused w }) e) (sym q)
       (steps-refused w (by-block ∙ on-refused _ _ w (p .0)))
 
-  module _ (n : ℕ) (left : List ℕ) (f : Fills (pageBlockOf (length (take (length d - from) (drop from d))) i) (take (length d - from) (drop from d)) (Start n) left) where
+  module _ (n : ℕ) (left : List ℕ) (f : Fills (pageBlockOf theEdition (length (take (length d - from) (drop from d))) i) (take (length d - from) (drop from d)) (Start n) left) where
     -- a block that was put fits behind the position
     pub page-fits : (st .position + n ≤ length d) × (length (i .registers) ≤ 256)
     page-fits =
-        let p = filled-start (pageBlockOf (length rest) i) rest n left f in
+        let p = filled-start (pageBlockOf theEdition (length rest) i) rest n left f in
         let b = block-page (length rest) i (p .0) (p .1) in
         let some = page-some i (p .0) (b .0) in
         let m : length (p .0) ≤ length d - startOf (st .position) (length d) = omega (arith, b .1, length-rest) in
         let l : leb (st .position + length (p .0)) (length d) ≡ true =
         sym (fits-same (st .position) (length d) (length (p .0)) some) ∙ le-leb (length (p .0)) (length d - startOf (st .position) (length d)) m in
-        (omega (arith, leb-true (st .position + length (p .0)) (length d) l, p .2), even-limits i (rules-passed i tt (page-ok-is i (p .0) (b .0) .1) .even) .few)
+        (omega (arith, leb-true (st .position + length (p .0)) (length d) l, p .2), even-limits i (rules-passed i tt (page-ok-is theEdition i (p .0) (b .0) .1) .even) .few)
 
     -- and the step is taken
     pub page-taken : Steps (pageStepOf st (length d) i) st d
@@ -163,7 +164,7 @@ module _ (st : Writer) (d : List ℕ) (i : Handed) (from : ℕ) (ef : from ≡ s
         (putMid from (length d - from) d left)
     unfolding next
     page-taken =
-        let p = filled-start (pageBlockOf (length rest) i) rest n left f in
+        let p = filled-start (pageBlockOf theEdition (length rest) i) rest n left f in
         let fit = page-fits .0 in
         let s : from ≡ st .position = ef ∙ start-at (st .position) (length d) (omega arith) in
         let q : putMid from (length d - from) d left ≡ sets d (st .position) (p .0) =

@@ -8,8 +8,10 @@ use native.Mathlib.Omega.{arith}
 use lib.ListN.{length, take, drop, length-append}
 use lib.Seq.{sets, sets-eq, length-sets, length-take-le, take-at}
 use Rattle.answer.specs.Outcome.{Out, refused, ok}
+use Rattle.block.specs.Kinds as kinds
+use Rattle.frame.specs.Layout.{theEdition}
 use Rattle.frame.specs.Frame.{shapesOf, frameOf}
-use Rattle.frame.specs.Whole.{blockOf, pageBlocks, endBlock, fileOf, Every, none, more, IsFile}
+use Rattle.frame.specs.Whole.{blockOf, pageBlocks, endBlock, fileOf, AllSay, none, more, IsFile}
 use Rattle.frame.proofs.Wholes.{is-frame}
 use Rattle.pageblock.specs.Body.{Handed, bodyOf, pageBytes}
 use Rattle.pageblock.specs.Typed.{Typed}
@@ -19,7 +21,7 @@ use Rattle.pageblock.proofs.Passing.{rules-passed}
 use Rattle.pageblock.proofs.ReadBack.{page-says}
 use Rattle.writer.specs.State.{Added, firstBlock, pageStepOf, closeOf, stateAfter, bufferAfter}
 use Rattle.writer.specs.Run as run
-use Rattle.writer.specs.Run.{Call, aPage, theEnd, Held, callOf, leftBy, afterOpen, afterCalls, pageOfCall, takenOf, TypedCall, TypedCalls, fileIn, pagesFor, frameFor, fileSoFar}
+use Rattle.writer.specs.Run.{Call, aPage, theEnd, HalfWritten, callOf, leftBy, afterOpen, afterCalls, pageOfCall, takenOf, TypedCall, TypedCalls, fileIn, pagesFor, frameFor, fileSoFar}
 use Rattle.writer.specs.Written.{Sounds, sounds-none, sounds-more, Written}
 use Rattle.writer.proofs.Ends.{length-first}
 use Rattle.writer.proofs.Ways.{open-ok}
@@ -34,11 +36,11 @@ take-sets d vs at h =
     let k : length (take at d ++ vs) ≡ at + length vs = length-append (take at d) vs ∙ ap (λ (n : ℕ). n + length vs) l in
     ap (take (at + length vs)) (sets-eq vs d at h) ∙ take-at (take at d ++ vs) (drop (at + length vs) d) (at + length vs) k
 
-blocks-more : (is : List Handed) (i : Handed) → pageBlocks (pagesFor (is ++ i ∷ [])) ≡ pageBlocks (pagesFor is) ++ pageBytes i
+blocks-more : (is : List Handed) (i : Handed) → pageBlocks (pagesFor (is ++ i ∷ [])) ≡ pageBlocks (pagesFor is) ++ pageBytes theEdition i
 unfolding pageBlocks pagesFor pageBytes pageFor
-blocks-more [] i = append-nil (blockOf 2 (bodyOf i))
+blocks-more [] i = append-nil (blockOf kinds.page (bodyOf theEdition i))
 blocks-more (j ∷ is) i =
-    ap (λ (l : List ℕ). blockOf 2 (bodyOf j) ++ l) (blocks-more is i) ∙ sym (append-assoc (blockOf 2 (bodyOf j)) (pageBlocks (pagesFor is)) (blockOf 2 (bodyOf i)))
+    ap (λ (l : List ℕ). blockOf kinds.page (bodyOf theEdition j) ++ l) (blocks-more is i) ∙ sym (append-assoc (blockOf kinds.page (bodyOf theEdition j)) (pageBlocks (pagesFor is)) (blockOf kinds.page (bodyOf theEdition i)))
 
 shapes-more : (is : List Handed) (i : Handed) → shapesOf (pagesFor (is ++ i ∷ [])) ≡ shapesOf (pagesFor is) + length (i .registers)
 unfolding shapesOf pagesFor pageFor headFor
@@ -57,15 +59,15 @@ sounds-last sounds-none t p = sounds-more t p sounds-none
 sounds-last (sounds-more u q s) t p = sounds-more u q (sounds-last s t p)
 
 -- each is a page of a file
-pub pages-say : {is : List Handed} → Sounds is → Every 1 (pagesFor is)
+pub pages-say : {is : List Handed} → Sounds is → AllSay 1 (pagesFor is)
 unfolding pagesFor
 pages-say sounds-none = none
-pages-say (sounds-more {i = i} t p s) = more (page-says i t (rules-passed i tt p)) (pages-say s)
+pages-say (sounds-more {i = i} t p s) = more (page-says theEdition i t (rules-passed i tt p)) (pages-say s)
 
 -- ---- what stands in the buffer
 
 -- after open: no pages
-pub written-open : (h : Held) → 8 ≤ length (h .buffer) → Written (afterOpen h) []
+pub written-open : (h : HalfWritten) → 8 ≤ length (h .buffer) → Written (afterOpen h) []
 unfolding leftBy stateAfter bufferAfter fileSoFar pageBlocks pagesFor shapesOf
 written-open h l =
     let d = h .buffer in
@@ -81,7 +83,7 @@ written-open h l =
     })
 
 -- a page that is taken is one more
-module _ (h : Held) (is : List Handed) (w : Written h is) where
+module _ (h : HalfWritten) (is : List Handed) (w : Written h is) where
   written-page : (i : Handed) (a : Added) → Typed i → pageStepOf (h .state) (length (h .buffer)) i ≡ ok a → Written (leftBy (ok a) h) (is ++ i ∷ [])
   unfolding leftBy stateAfter bufferAfter fileSoFar
   written-page i a t e =
@@ -91,11 +93,11 @@ module _ (h : Held) (is : List Handed) (w : Written h is) where
       let so-far : take (st .position) d ≡ firstBlock ++ pageBlocks (pagesFor is) = w .bytes ∙ ap (λ (c : Bool). fileSoFar c is) (p .opened) in
       subst (λ (x : Added). Written (record { state = x .next; buffer = sets d (x .from) (x .bytes) }) (is ++ i ∷ [])) (p .adds)
       (record {
-        inside = omega (arith, p .fits, length-sets d (st .position) (pageBytes i));
+        inside = omega (arith, p .fits, length-sets d (st .position) (pageBytes theEdition i));
         bytes =
-            take-sets d (pageBytes i) (st .position) (p .fits)
-            ∙ ap (λ (l : List ℕ). l ++ pageBytes i) so-far
-            ∙ append-assoc firstBlock (pageBlocks (pagesFor is)) (pageBytes i)
+            take-sets d (pageBytes theEdition i) (st .position) (p .fits)
+            ∙ ap (λ (l : List ℕ). l ++ pageBytes theEdition i) so-far
+            ∙ append-assoc firstBlock (pageBlocks (pagesFor is)) (pageBytes theEdition i)
             ∙ ap (λ (l : List ℕ). firstBlock ++ l) (sym (blocks-more is i));
         pages = omega (arith, w .pages, length-append is (i ∷ []));
         shapes = omega (arith, w .shapes, shapes-more is i);
@@ -134,7 +136,7 @@ module _ (h : Held) (is : List Handed) (w : Written h is) where
   written-call theEnd (ok a) e t = subst (Written (leftBy (ok a) h)) (sym (append-nil is)) (written-close a e)
 
 -- all of them
-pub written-calls : (h : Held) (is : List Handed) (cs : List Call) → Written h is → TypedCalls cs → Written (afterCalls h cs) (is ++ takenOf h cs)
+pub written-calls : (h : HalfWritten) (is : List Handed) (cs : List Call) → Written h is → TypedCalls cs → Written (afterCalls h cs) (is ++ takenOf h cs)
 unfolding afterCalls takenOf
 written-calls h is [] w t = subst (Written h) (sym (append-nil is)) w
 written-calls h is (c ∷ cs) w (run.more t ts) =
@@ -143,14 +145,14 @@ written-calls h is (c ∷ cs) w (run.more t ts) =
     (written-calls (leftBy o h) (is ++ pageOfCall o c) cs (written-call h is w c o refl t) ts)
 
 -- two writers that took the same pages have written the same bytes
-pub written-same : (h k : Held) (is : List Handed) → Written h is → Written k is → h .state .closed ≡ k .state .closed
+pub written-same : (h k : HalfWritten) (is : List Handed) → Written h is → Written k is → h .state .closed ≡ k .state .closed
     → fileIn h ≡ fileIn k
 written-same h k is v w e = v .bytes ∙ ap (λ (c : Bool). fileSoFar c is) e ∙ sym (w .bytes)
 
 -- ---- the file
 
 -- once closed, what stands before the position is the file of the pages that were taken
-pub written-file : (h : Held) (is : List Handed) → Written h is → h .state .closed ≡ true → IsFile (fileIn h) (frameFor is)
+pub written-file : (h : HalfWritten) (is : List Handed) → Written h is → h .state .closed ≡ true → IsFile (fileIn h) (frameFor is)
 unfolding fileSoFar frameFor
 written-file h is w e = record {
   edition = refl;
@@ -160,7 +162,7 @@ written-file h is w e = record {
 }
 
 -- from open on, with the buffer lent back as it was left: a closed writer's file has the frame of the pages that were taken, each of which passed
-pub run-frame : (h : Held) (cs : List Call) → 8 ≤ length (h .buffer) → TypedCalls cs → afterCalls (afterOpen h) cs .state .closed ≡ true
+pub run-frame : (h : HalfWritten) (cs : List Call) → 8 ≤ length (h .buffer) → TypedCalls cs → afterCalls (afterOpen h) cs .state .closed ≡ true
     → (frameOf (fileIn (afterCalls (afterOpen h) cs)) ≡ ok (frameFor (takenOf (afterOpen h) cs))) × Sounds (takenOf (afterOpen h) cs)
 run-frame h cs l t c =
     let w = written-calls (afterOpen h) [] cs (written-open h l) t in

@@ -11,6 +11,7 @@ use Rattle.answer.specs.Outcome.{ok}
 use Rattle.answer.proofs.Outcomes.{ok-inj, need-ok, on-ok}
 use Rattle.answer.proofs.Rules.{rule-ok}
 use Rattle.answer.proofs.Both.{both-l}
+use Rattle.frame.specs.Layout.{theEdition}
 use Rattle.frame.specs.Whole.{endBlock}
 use Rattle.pageblock.specs.Body.{Handed, pageBytes}
 use Rattle.pageblock.specs.Page.{pageRules}
@@ -36,8 +37,8 @@ pub record PageTaken (st : Writer) (room : ℕ) (i : Handed) (a : Added) : Type 
   pub opened : st .closed ≡ false
   pub below : st .pages < 1024
   pub passed : pageRules i ≡ ok tt
-  pub fits : st .position + length (pageBytes i) ≤ room
-  pub adds : added (stateWith (st .position + length (pageBytes i)) (st .pages + 1) (st .shapes + length (i .registers)) false) (st .position) (pageBytes i) ≡ a
+  pub fits : st .position + length (pageBytes theEdition i) ≤ room
+  pub adds : added (stateWith (st .position + length (pageBytes theEdition i)) (st .pages + 1) (st .shapes + length (i .registers)) false) (st .position) (pageBytes theEdition i) ≡ a
 
 pub page-was : (st : Writer) (room : ℕ) (i : Handed) (a : Added) → pageStepOf st room i ≡ ok a → PageTaken st room i a
 unfolding pageStepOf pagesRule
@@ -46,9 +47,9 @@ page-was st room i a e =
     let y = on-ok _ _ a (x .2) in
     let z = on-ok _ _ a (y .2) in
     let bytes = z .0 in
-    let is = page-ok-is i bytes (z .1) in
+    let is = page-ok-is theEdition i bytes (z .1) in
     let p = subst (λ (l : List ℕ). putAt room (st .position) l (stateWith (st .position + length l) (st .pages + 1) (st .shapes + length (i .registers)) false) ≡ ok a) (is .0) (z .2) in
-    let q = put-is room (st .position) (pageBytes i) _ a p in
+    let q = put-is room (st .position) (pageBytes theEdition i) _ a p in
     record {
       opened = open-is st (x .0) (x .1);
       below = ltb-true (st .pages) 1024 (both-l (ltb (st .pages) 1024) (leb (st .shapes) 262144) (rule-ok _ table.many (y .0) (y .1)));

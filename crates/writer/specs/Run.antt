@@ -4,6 +4,7 @@ use mathlib.Core.Bool.{Bool, true, false}
 use mathlib.Core.List.{List, [], _∷_, _++_}
 use lib.ListN.{length, take}
 use Rattle.answer.specs.Outcome.{Out, refused, ok}
+use Rattle.frame.specs.Layout.{theEdition}
 use Rattle.frame.specs.Frame.{Page, Frame}
 use Rattle.frame.specs.Whole.{pageBlocks, fileOf}
 use Rattle.pageblock.specs.Body.{Handed}
@@ -20,25 +21,25 @@ pub data Call : Type 0 where
   theEnd : Call
 
 -- a state, and the buffer that is lent with it
-pub record Held : Type 0 where
+pub record HalfWritten : Type 0 where
   pub state : Writer
   pub buffer : List ℕ
 
 -- what a call comes to
-unfoldable pub callOf : Held → Call → Out Added
+unfoldable pub callOf : HalfWritten → Call → Out Added
 callOf h (aPage i) = pageStepOf (h .state) (length (h .buffer)) i
 callOf h theEnd = closeOf (h .state) (length (h .buffer))
 
 -- what it leaves
-unfoldable pub leftBy : Out Added → Held → Held
+unfoldable pub leftBy : Out Added → HalfWritten → HalfWritten
 leftBy o h = record { state = stateAfter o (h .state); buffer = bufferAfter o (h .buffer) }
 
 -- what an open call leaves
-abbrev pub afterOpen : Held → Held
+abbrev pub afterOpen : HalfWritten → HalfWritten
 afterOpen h = leftBy (openOf (length (h .buffer))) h
 
 -- one call after the other, whether taken or refused
-unfoldable pub afterCalls : Held → List Call → Held
+unfoldable pub afterCalls : HalfWritten → List Call → HalfWritten
 afterCalls h [] = h
 afterCalls h (c ∷ cs) = afterCalls (leftBy (callOf h c) h) cs
 
@@ -49,7 +50,7 @@ pageOfCall (ok a) (aPage i) = i ∷ []
 pageOfCall (ok a) theEnd = []
 
 -- the pages that were taken, in order
-unfoldable pub takenOf : Held → List Call → List Handed
+unfoldable pub takenOf : HalfWritten → List Call → List Handed
 takenOf h [] = []
 takenOf h (c ∷ cs) = pageOfCall (callOf h c) c ++ takenOf (leftBy (callOf h c) h) cs
 
@@ -66,13 +67,13 @@ pub data TypedCalls : List Call → Type 0 where
 -- ---- the file
 
 -- what stands in the buffer before the position: once closed, the closed file
-abbrev pub fileIn : Held → List ℕ
+abbrev pub fileIn : HalfWritten → List ℕ
 fileIn h = take (h .state .position) (h .buffer)
 
 -- the pages of a file that were handed in
 unfoldable pub pagesFor : List Handed → List Page
 pagesFor [] = []
-pagesFor (i ∷ is) = pageFor i ∷ pagesFor is
+pagesFor (i ∷ is) = pageFor theEdition i ∷ pagesFor is
 
 -- the frame of the file of these pages
 unfoldable pub frameFor : List Handed → Frame

@@ -7,11 +7,15 @@ use mathlib.Core.List.{List}
 use lib.Dec.{leb, ltb}
 use lib.ListN.{length}
 use lib.Seq.{sets}
+use Rattle.answer.specs.Limits.{mostPages, mostShapes}
+use Rattle.answer.specs.Lent.{Lent, came, left}
 use Rattle.answer.specs.Table as table
 use Rattle.answer.specs.Refusal.{because}
 use Rattle.answer.specs.Outcome.{Out, refused, ok, need, on}
 use Rattle.answer.specs.Rule.{rule, judged, passed}
 use Rattle.le.specs.Number.{bytesOf}
+use Rattle.block.specs.Kinds as kinds
+use Rattle.frame.specs.Layout.{theEdition}
 use Rattle.frame.specs.Whole.{blockOf, endBlock}
 use Rattle.pageblock.specs.Body.{Handed}
 use Rattle.pageblock.specs.Page.{pageWritten}
@@ -38,9 +42,9 @@ openRule st = rule (not (st .closed)) table.closed
 
 -- ---- open
 
--- kind 1, once, first: edition (u16) = 1
+-- once, first: the edition (u16)
 unfoldable pub firstBlock : List ℕ
-firstBlock = blockOf 1 (bytesOf 2 1)
+firstBlock = blockOf kinds.first (bytesOf 2 theEdition)
 
 -- whatever the state was, the next one has no pages and stands behind the first block
 unfoldable pub openOf : ℕ → Out Added
@@ -50,21 +54,21 @@ openOf room = putAt room 0 firstBlock (stateWith (length firstBlock) 0 0 false)
 
 -- 3: a 1,025th page, or a state with over 262,144 shapes
 unfoldable pub pagesRule : Writer → Out (Unit {0})
-pagesRule st = rule (ltb (st .pages) 1024 && leb (st .shapes) 262144) table.many
+pagesRule st = rule (ltb (st .pages) mostPages && leb (st .shapes) mostShapes) table.many
 
 -- the page's block at the position, and one page and its shapes more
 unfoldable pub pageStepOf : Writer → ℕ → Handed → Out Added
 pageStepOf st room i =
     on (openRule st) (λ _.
     on (pagesRule st) (λ _.
-    on (pageWritten i) (λ bytes.
+    on (pageWritten theEdition i) (λ bytes.
     putAt room (st .position) bytes (stateWith (st .position + length bytes) (st .pages + 1) (st .shapes + length (i .registers)) false))))
 
 -- ---- close
 
 -- 3: a state with over 1,024 pages or 262,144 shapes
 unfoldable pub totalsRule : Writer → Out (Unit {0})
-totalsRule st = rule (leb (st .pages) 1024 && leb (st .shapes) 262144) table.many
+totalsRule st = rule (leb (st .pages) mostPages && leb (st .shapes) mostShapes) table.many
 
 -- the end block at the position, with the state's counts
 unfoldable pub closeOf : Writer → ℕ → Out Added
@@ -91,6 +95,10 @@ pub record Steps (o : Out Added) (st : Writer) (d : List ℕ) (r : Stepped) (lef
   pub verdict : judged (r .verdict) ≡ passed o
   pub state : r .writer ≡ stateAfter o st
   pub buffer : left ≡ bufferAfter o d
+
+-- the same, of a buffer that is lent
+abbrev pub StepsIn : Out Added → Writer → Lent → Stepped → Type 0
+StepsIn o st d r = Steps o st (came d) r (left d)
 
 -- ---- for an inner step; no service speaks of it
 

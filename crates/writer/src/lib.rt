@@ -1,19 +1,25 @@
 // The file writer. Its state goes in by value and is handed back; a refused step hands it back as it came, and leaves the buffer as it was.
 ghost use mathlib.Core.Path.{_≡_};
 ghost use lib.ListN.{length};
+ghost use Rattle.answer.specs.Lent.{came};
 ghost use Rattle.answer.specs.Refusal.{because};
 ghost use Rattle.answer.specs.declared.Verdict.the-variants as verdict;
-ghost use Rattle.pageblock.specs.Body.{handedWith};
-ghost use Rattle.writer.specs.State.{openOf, pageStepOf, closeOf, Steps, startOf};
+ghost use Rattle.pageblock.specs.Body.{handed};
+ghost use Rattle.writer.specs.State.{openOf, pageStepOf, closeOf, StepsIn, startOf};
+use crate::blocks::END_BLOCK;
+use crate::blocks::FIRST_BLOCK;
 use crate::blocks::put_end;
 use crate::blocks::put_first;
 use answer::Filled;
 use answer::Refusal;
 use answer::Verdict;
+use answer::limits::MOST_PAGES;
+use answer::limits::MOST_SHAPES;
 use answer::table::CLOSED;
 use answer::table::MANY;
 use answer::table::ROOM;
-use pageblock::block::page_block;
+use frame::layout::EDITION;
+use pageblock::page_block::page_block;
 
 mod blocks;
 
@@ -55,15 +61,15 @@ impl Writer {
     // The first block at the buffer's start, and a state with no pages. Of the state that comes in nothing is used; it is handed back where
     // the step is refused.
     pub fn open(self, d: &mut [u8]) -> Stepped
-        ensures { λ r. ⌜ Steps (openOf (length (now (d .entry)))) self (now (d .entry)) r (now (d .exit)) ⌝ }
+        ensures { λ r. ⌜ StepsIn (openOf (length (came d))) self d r ⌝ }
     {
-        if d.len() < 8 {
+        if d.len() < FIRST_BLOCK {
             return refused(self, ROOM);
         }
         put_first(d);
         Stepped {
             writer: Writer {
-                position: 8,
+                position: FIRST_BLOCK,
                 pages: 0,
                 shapes: 0,
                 closed: false,
@@ -83,7 +89,7 @@ impl Writer {
         xs: &[u64],
         ys: &[u64],
     ) -> Stepped
-        ensures { λ r. ⌜ Steps (pageStepOf self (length (now (d .entry))) (handedWith (now (registers .entry)) (now (types .entry)) (now (counts .entry)) (now (lens .entry)) (now (xs .entry)) (now (ys .entry)))) self (now (d .entry)) r (now (d .exit)) ⌝ }
+        ensures { λ r. ⌜ StepsIn (pageStepOf self (length (came d)) (handed registers types counts lens xs ys)) self d r ⌝ }
     {
         let position = self.position;
         let pages = self.pages;
@@ -91,14 +97,23 @@ impl Writer {
         if self.closed {
             return refused(self, CLOSED);
         }
-        if 1024 <= pages {
+        if MOST_PAGES <= pages as usize {
             return refused(self, MANY);
         }
-        if 262144 < shapes {
+        if MOST_SHAPES < shapes as usize {
             return refused(self, MANY);
         }
         let from = start_of(position, d.len());
-        match page_block(&mut d[from..], registers, types, counts, lens, xs, ys) {
+        match page_block(
+            EDITION,
+            &mut d[from..],
+            registers,
+            types,
+            counts,
+            lens,
+            xs,
+            ys,
+        ) {
             Filled::Refused(w) => Stepped {
                 writer: self,
                 verdict: Verdict::Refused(w),
@@ -117,7 +132,7 @@ impl Writer {
 
     // The end block at the position.
     pub fn close(self, d: &mut [u8]) -> Stepped
-        ensures { λ r. ⌜ Steps (closeOf self (length (now (d .entry)))) self (now (d .entry)) r (now (d .exit)) ⌝ }
+        ensures { λ r. ⌜ StepsIn (closeOf self (length (came d))) self d r ⌝ }
     {
         let position = self.position;
         let pages = self.pages;
@@ -125,22 +140,22 @@ impl Writer {
         if self.closed {
             return refused(self, CLOSED);
         }
-        if 1024 < pages {
+        if MOST_PAGES < pages as usize {
             return refused(self, MANY);
         }
-        if 262144 < shapes {
+        if MOST_SHAPES < shapes as usize {
             return refused(self, MANY);
         }
         if d.len() < position {
             return refused(self, ROOM);
         }
-        if d.len() - position < 14 {
+        if d.len() - position < END_BLOCK {
             return refused(self, ROOM);
         }
         put_end(d, position, pages, shapes);
         Stepped {
             writer: Writer {
-                position: position + 14,
+                position: position + END_BLOCK,
                 pages,
                 shapes,
                 closed: true,

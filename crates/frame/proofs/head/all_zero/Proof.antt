@@ -8,15 +8,17 @@ use Rattle.frame.proofs.head.all_zero.Tie as tie
 
 returns : tie.Need-returns
 unfolding allZero
-returns c = passed-three _ _ _ _ _ (eq-eqb _ 0 (c .before .before .if1 .taken)) (eq-eqb _ 0 (c .before .if2 .taken)) (eq-eqb _ 0 (c .if3 .taken)) refl
+returns c =
+    passed-three _ _ _ _ _ (eq-eqb _ 0 (c .before .before .before .before .before .if1 .taken)) (eq-eqb _ 0 (c .before .before .before .if2 .taken))
+    (eq-eqb _ 0 (c .before .if3 .taken)) refl
 
 returns-2 : tie.Need-returns-2
 unfolding allZero
-returns-2 c = failed-third _ _ _ _ (eq-eqb _ 0 (c .before .before .if1 .taken)) (eq-eqb _ 0 (c .before .if2 .taken)) (ne-eqb _ 0 (c .if3 .left))
+returns-2 c = failed-third _ _ _ _ (eq-eqb _ 0 (c .before .before .before .before .if1 .taken)) (eq-eqb _ 0 (c .before .before .if2 .taken)) (ne-eqb _ 0 (c .if3 .left))
 
 returns-3 : tie.Need-returns-3
 unfolding allZero
-returns-3 c = failed-second _ _ _ _ (eq-eqb _ 0 (c .before .if1 .taken)) (ne-eqb _ 0 (c .if2 .left))
+returns-3 c = failed-second _ _ _ _ (eq-eqb _ 0 (c .before .before .if1 .taken)) (ne-eqb _ 0 (c .if2 .left))
 
 returns-4 : tie.Need-returns-4
 unfolding allZero

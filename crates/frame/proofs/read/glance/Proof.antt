@@ -35,11 +35,14 @@ add-t10 c =
 add-t11 : tie.Need-add-t11
 add-t11 c = omega (arith, page-few _ _ _ (c .before .before .before .before .before .pre .1 .1) .1)
 
+add-u16-at-2 : tie.Need-add-u16-at-2
+add-u16-at-2 c = omega (arith, reach (c .before .before .before .before .before), c .before .before .before .before .before .good .0 .0)
+
 u16-at-requires-2 : tie.Need-u16-at-requires-2
 u16-at-requires-2 c κs = omega (arith, reach (c .before .before .before .before .before))
 
-add-t13 : tie.Need-add-t13
-add-t13 c =
+add-t14 : tie.Need-add-t14
+add-t14 c =
     let s = c .before .before .before .before .before .before .before in
     let f = page-few _ _ _ (s .pre .1 .1) in
     omega (arith, c .before .u16-at2 .ensures .0, page-shapes _ _ _ (s .pre .1 .1), f .0, f .1, s .pre .0)
@@ -66,6 +69,7 @@ glance-spec =
     u32-at-requires
     add-t10
     add-t11
+    add-u16-at-2
     u16-at-requires-2
-    add-t13
+    add-t14
     returns)

@@ -4,8 +4,8 @@ use Rattle.answer.specs.Outcome.{inPage}
 use Rattle.answer.specs.Table.{lengths}
 use Rattle.answer.specs.Rule.{passed}
 use Rattle.answer.proofs.Rules.{passed-because, passed-in-page}
-use Rattle.le.proofs.Blocks.{block-fits}
-use Rattle.frame.proofs.Steps.{step-absent, step-found}
+use Rattle.block.proofs.Blocks.{block-fits}
+use Rattle.frame.proofs.Ways.{step-absent, step-found}
 use borrow.Author.Needs.{needs}
 use Rattle.frame.proofs.rules.block_rules.Statement.{statement}
 use Rattle.frame.proofs.rules.block_rules.Tie as tie

@@ -1,9 +1,9 @@
--- `end_rules` makes the tests of `endStep`, one after the other. Assumes nothing.
+-- `end_rules` makes the tests of `asEnd`, one after the other. Assumes nothing.
 use mathlib.Core.Path.{_∙_}
 use borrow.Author.Tests.{eqb-true, eqb-false}
 use Rattle.answer.specs.Table.{lengths, counts}
 use Rattle.answer.proofs.Rules.{passed-because, rule-passed}
-use Rattle.frame.proofs.Steps.{end-length, end-pages, end-shapes, end-after, end-good}
+use Rattle.frame.proofs.Ways.{end-length, end-pages, end-shapes, end-after, end-good}
 use borrow.Author.Needs.{needs}
 use Rattle.frame.proofs.rules.end_rules.Statement.{statement}
 use Rattle.frame.proofs.rules.end_rules.Tie as tie

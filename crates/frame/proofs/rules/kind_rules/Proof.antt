@@ -3,16 +3,16 @@ use mathlib.Core.Path.{sym, ap, _∙_}
 use Rattle.answer.specs.Table.{kind}
 use Rattle.answer.specs.Rule.{passed}
 use Rattle.answer.proofs.Rules.{passed-because}
-use Rattle.frame.proofs.Steps.{kind-page, kind-end, kind-other}
+use Rattle.frame.proofs.Ways.{kind-page, kind-end, kind-other}
 use borrow.Author.Needs.{needs}
 use Rattle.frame.proofs.rules.kind_rules.Statement.{statement}
 use Rattle.frame.proofs.rules.kind_rules.Tie as tie
 
-page-rules-requires : tie.Need-page-rules-requires
-page-rules-requires c κs = search needs
+page-block-rules-requires : tie.Need-page-block-rules-requires
+page-block-rules-requires c κs = search needs
 
 returns : tie.Need-returns
-returns c = c .page-rules .ensures ∙ ap passed (sym (kind-page _ _ _ (c .before .if1 .taken)))
+returns c = c .page-block-rules .ensures ∙ ap passed (sym (kind-page _ _ _ (c .before .if1 .taken)))
 
 end-rules-requires : tie.Need-end-rules-requires
 end-rules-requires c κs = search needs
@@ -29,4 +29,4 @@ returns-3 c = passed-because kind _ (c .because .ensures) (kind-other _ _ _ (c .
 pub kind-rules-spec : {M : Type 1} → statement M
 kind-rules-spec =
     tie.close
-    (tie.spec page-rules-requires returns end-rules-requires returns-2 because-requires returns-3)
+    (tie.spec page-block-rules-requires returns end-rules-requires returns-2 because-requires returns-3)

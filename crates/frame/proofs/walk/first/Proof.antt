@@ -1,8 +1,8 @@
 -- `first` takes the block at the start. Assumes nothing.
 use mathlib.Core.Path.{sym, _∙_}
-use Rattle.le.proofs.Blocks.{block-fits}
+use Rattle.block.proofs.Blocks.{block-fits}
 use Rattle.frame.specs.Said.{saidFirst}
-use Rattle.frame.proofs.Steps.{first-refused, first-found, block-said, block-refused}
+use Rattle.frame.proofs.Ways.{first-refused, first-found, block-said, block-refused}
 use borrow.Author.Needs.{needs}
 use Rattle.frame.proofs.walk.first.Statement.{statement}
 use Rattle.frame.proofs.walk.first.Tie as tie

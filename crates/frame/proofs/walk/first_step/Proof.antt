@@ -1,7 +1,7 @@
--- `first_step` says what `firstStep` does, by each of its ways. Assumes nothing.
+-- `first_step` says what `asFirst` does, by each of its ways. Assumes nothing.
 use mathlib.Core.Path.{sym, _∙_}
 use Rattle.frame.specs.Said.{saidFirst}
-use Rattle.frame.proofs.Steps.{first-kind, first-length, first-edition, first-good}
+use Rattle.frame.proofs.Ways.{first-kind, first-length, first-edition, first-good}
 use borrow.Author.Needs.{needs}
 use Rattle.frame.proofs.walk.first_step.Statement.{statement}
 use Rattle.frame.proofs.walk.first_step.Tie as tie

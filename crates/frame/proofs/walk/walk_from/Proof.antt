@@ -6,7 +6,7 @@ use Rattle.answer.specs.Outcome.{ok}
 use Rattle.answer.specs.Rule.{judged}
 use Rattle.answer.proofs.Rules.{holds-passed, refused-passed}
 use Rattle.frame.specs.declared.cursor.Glance.{Glance}
-use Rattle.frame.specs.Step.{Turn, stepOf}
+use Rattle.frame.specs.Next.{NextBlock, nextOf}
 use Rattle.frame.proofs.Walks.{Walking, walking-start, walking-refused, walking-end, walking-fewer, walking-page}
 use Rattle.frame.proofs.Found.{ends-end, ends-page}
 use borrow.Author.Needs.{needs}
@@ -36,7 +36,7 @@ enum-told c = search needs
 
 -- the block at the cursor has passed
 passes : (c : tie.After-enum-told Inv-loop μ-loop)
-    → (t : Turn) × (stepOf (c .before .before .before .before .before .args .s .now) (c .before .before .before .loop .c) ≡ ok t)
+    → (t : NextBlock) × (nextOf (c .before .before .before .before .before .args .s .now) (c .before .before .before .loop .c) ≡ ok t)
 passes c = holds-passed _ (ap judged (sym (c .enum-told .given .1)) ∙ c .before .before .block-rules .ensures)
 
 at-end-requires : tie.Need-at-end-requires Inv-loop μ-loop

@@ -4,17 +4,20 @@ use borrow.Author.Needs.{needs}
 use Rattle.pageblock.proofs.body.put_counts.Statement.{statement}
 use Rattle.pageblock.proofs.body.put_counts.Tie as tie
 
+add-put-u16 : tie.Need-add-put-u16
+add-put-u16 c = search needs
+
 put-u16-requires : tie.Need-put-u16-requires
 put-u16-requires c κs = search needs
 
-add-put-u16 : tie.Need-add-put-u16
-add-put-u16 c = search needs
+add-put-u16-2 : tie.Need-add-put-u16-2
+add-put-u16-2 c = search needs
 
 put-u16-requires-2 : tie.Need-put-u16-requires-2
 put-u16-requires-2 c κs = search needs
 
-add-put-u16-2 : tie.Need-add-put-u16-2
-add-put-u16-2 c = search needs
+add-put-u16-3 : tie.Need-add-put-u16-3
+add-put-u16-3 c = search needs
 
 put-u16-requires-3 : tie.Need-put-u16-requires-3
 put-u16-requires-3 c κs = search needs
@@ -24,19 +27,18 @@ same-length c = search needs
 
 returns : tie.Need-returns
 returns c =
-    let put-u16 = c .before .before .before .before .before .before .before .before .before .before .put-u16 in
-    let put-u162 = c .before .before .before .before .before .before .put-u162 in
     let a = c .before .before .before .before .before .before .before .before .before .before .before .before .before .args in
-    counts-put (a .g) (a .v) (a .p) (a .d .now) _ _ _ (a .at) (put-u16 .ensures) (put-u162 .ensures) (c .before .before .put-u163 .ensures)
+    counts-put (a .g) (a .v) (a .p) (a .d .now) _ _ _ (a .body) (c .before .before .before .before .before .before .before .before .before .before .put-u16 .ensures) (c .before .before .before .before .before .before .put-u162 .ensures) (c .before .before .put-u163 .ensures)
 
 pub put-counts-spec : {M : Type 1} → statement M
 put-counts-spec =
     tie.close
     (tie.spec
-    put-u16-requires
     add-put-u16
-    put-u16-requires-2
+    put-u16-requires
     add-put-u16-2
+    put-u16-requires-2
+    add-put-u16-3
     put-u16-requires-3
     same-length
     returns)

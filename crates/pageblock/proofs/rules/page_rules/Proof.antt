@@ -40,7 +40,11 @@ outline-rules-requires c κs =
     let counts-hold = c .before .before .before .before .counts-hold in
     let a = c .before .before .before .before .before .before .before .before .before .before .before .args in
     let e = holds-even (handedWith (a .registers .now) (a .types .now) (a .counts .now) (a .lens .now) (a .xs .now) (a .ys .now)) (sym (counts-hold .ensures) ∙ not-false _ (c .before .before .before .if1 .left)) in
-    (parts-held (a .types .now) (a .counts .now) (a .lens .now) _ (rw (c .enum-told .given .1) at (c .before .before .parts-rule .ensures)), e .vertices-even, even-limits (handedWith (a .registers .now) (a .types .now) (a .counts .now) (a .lens .now) (a .xs .now) (a .ys .now)) e .vertices)
+    record {
+      parts = parts-held (a .types .now) (a .counts .now) (a .lens .now) _ (rw (c .enum-told .given .1) at (c .before .before .parts-rule .ensures));
+      same = e .vertices-even;
+      few = even-limits (handedWith (a .registers .now) (a .types .now) (a .counts .now) (a .lens .now) (a .xs .now) (a .ys .now)) e .vertices;
+    }
 
 returns-3 : tie.Need-returns-3
 returns-3 c =

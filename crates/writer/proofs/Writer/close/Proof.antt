@@ -17,6 +17,9 @@ refused-requires c κs = search needs
 returns : tie.Need-returns
 returns c = let a = c .before .before .before .args in rw (c .refused .ensures) (steps-refused _ (close-closed (a .self) _ (c .before .if1 .taken)))
 
+cast-if2 : tie.Need-cast-if2
+cast-if2 c = search needs
+
 refused-requires-2 : tie.Need-refused-requires-2
 refused-requires-2 c κs = search needs
 
@@ -24,6 +27,9 @@ returns-2 : tie.Need-returns-2
 returns-2 c =
     let a = c .before .before .before .before .args in
     rw (c .refused2 .ensures) (steps-refused _ (close-many (a .self) _ (c .before .before .if1 .left) (c .before .if2 .taken)))
+
+cast-if3 : tie.Need-cast-if3
+cast-if3 c = search needs
 
 refused-requires-3 : tie.Need-refused-requires-3
 refused-requires-3 c κs = search needs
@@ -81,8 +87,10 @@ close-spec =
     (tie.spec
     refused-requires
     returns
+    cast-if2
     refused-requires-2
     returns-2
+    cast-if3
     refused-requires-3
     returns-3
     refused-requires-4

@@ -18,6 +18,9 @@ returns c =
     let a = c .before .before .before .before .before .before .before .before .before .args in
     rw (c .refused .ensures) (steps-refused _ (page-closed (a .self) _ _ (c .before .if1 .taken)))
 
+cast-if2 : tie.Need-cast-if2
+cast-if2 c = search needs
+
 refused-requires-2 : tie.Need-refused-requires-2
 refused-requires-2 c κs = search needs
 
@@ -25,6 +28,9 @@ returns-2 : tie.Need-returns-2
 returns-2 c =
     let a = c .before .before .before .before .before .before .before .before .before .before .args in
     rw (c .refused2 .ensures) (steps-refused _ (page-many (a .self) _ _ (c .before .before .if1 .left) (c .before .if2 .taken)))
+
+cast-if3 : tie.Need-cast-if3
+cast-if3 c = search needs
 
 refused-requires-3 : tie.Need-refused-requires-3
 refused-requires-3 c κs = search needs
@@ -133,8 +139,10 @@ page-spec =
     (tie.spec
     refused-requires
     returns
+    cast-if2
     refused-requires-2
     returns-2
+    cast-if3
     refused-requires-3
     returns-3
     start-of-requires

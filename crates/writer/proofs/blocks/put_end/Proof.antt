@@ -16,6 +16,9 @@ put-u32-requires c κs = search needs
 add-put-u32-2 : tie.Need-add-put-u32-2
 add-put-u32-2 c = search needs
 
+add-put-u32-3 : tie.Need-add-put-u32-3
+add-put-u32-3 c = search needs
+
 put-u32-requires-2 : tie.Need-put-u32-requires-2
 put-u32-requires-2 c κs = search needs
 
@@ -37,6 +40,7 @@ put-end-spec =
     add-put-u32
     put-u32-requires
     add-put-u32-2
+    add-put-u32-3
     put-u32-requires-2
     same-length
     returns)

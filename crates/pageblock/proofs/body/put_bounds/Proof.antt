@@ -1,8 +1,8 @@
--- `pageblock::body::put_four` puts four patterns, one behind the other. Assumes nothing.
+-- `pageblock::body::put_bounds` puts four patterns, one behind the other. Assumes nothing.
 use Rattle.pageblock.proofs.Storing.{box-put}
 use borrow.Author.Needs.{needs}
-use Rattle.pageblock.proofs.body.put_four.Statement.{statement}
-use Rattle.pageblock.proofs.body.put_four.Tie as tie
+use Rattle.pageblock.proofs.body.put_bounds.Statement.{statement}
+use Rattle.pageblock.proofs.body.put_bounds.Tie as tie
 
 put-u64-requires : tie.Need-put-u64-requires
 put-u64-requires c κs = search needs
@@ -34,10 +34,10 @@ returns c =
     let put-u642 = c .before .before .before .before .before .before .before .before .before .before .put-u642 in
     let put-u643 = c .before .before .before .before .before .before .put-u643 in
     let a = c .before .before .before .before .before .before .before .before .before .before .before .before .before .before .before .before .before .args in
-    box-put (record { least-x = a .least-x; least-y = a .least-y; greatest-x = a .greatest-x; greatest-y = a .greatest-y }) (a .d .now) _ _ _ _ (a .at) (put-u64 .ensures) (put-u642 .ensures) (put-u643 .ensures) (c .before .before .put-u644 .ensures)
+    box-put (a .b) (a .d .now) _ _ _ _ (a .at) (put-u64 .ensures) (put-u642 .ensures) (put-u643 .ensures) (c .before .before .put-u644 .ensures)
 
-pub put-four-spec : {M : Type 1} → statement M
-put-four-spec =
+pub put-bounds-spec : {M : Type 1} → statement M
+put-bounds-spec =
     tie.close
     (tie.spec
     put-u64-requires

@@ -1,13 +1,13 @@
--- `page_rules` judges the head in the part of the file that is the body, after the test for a 1,025th page. Assumes nothing.
+-- `page_block_rules` judges the head in the part of the file that is the body, after the test for a 1,025th page. Assumes nothing.
 use mathlib.Core.Path.{_∙_, ap, sym}
 use native.Mathlib.Omega.{arith}
 use Rattle.answer.specs.Table.{many}
 use Rattle.answer.specs.Rule.{passed}
 use Rattle.answer.proofs.Rules.{passed-because}
-use Rattle.frame.proofs.Steps.{page-many, page-passed, part-head}
+use Rattle.frame.proofs.Ways.{page-many, page-passed, part-head}
 use borrow.Author.Needs.{needs}
-use Rattle.frame.proofs.rules.page_rules.Statement.{statement}
-use Rattle.frame.proofs.rules.page_rules.Tie as tie
+use Rattle.frame.proofs.rules.page_block_rules.Statement.{statement}
+use Rattle.frame.proofs.rules.page_block_rules.Tie as tie
 
 because-requires : tie.Need-because-requires
 because-requires c κs = search needs
@@ -37,8 +37,8 @@ returns-2 c =
     ∙ ap passed (part-head (a .c .edition) (a .s .now) (a .b .body) (a .b .len))
     ∙ sym (page-passed (a .s .now) (a .c) (a .b) (omega arith))
 
-pub page-rules-spec : {M : Type 1} → statement M
-page-rules-spec =
+pub page-block-rules-spec : {M : Type 1} → statement M
+page-block-rules-spec =
     tie.close
     (tie.spec
     because-requires
