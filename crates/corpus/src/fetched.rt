@@ -7,7 +7,7 @@ use crate::record::span_at;
 use crate::saying::answered;
 use crate::saying::ended;
 use crate::saying::malformed;
-use viewer::one_shape::boundary_fetch;
+use viewer::file_fetch::boundary_fetch;
 
 // 3: file, place, about, lens, xs, ys.
 pub(crate) fn fetched(input: &[u8]) -> bool {

@@ -6,9 +6,9 @@ use crate::record::span_at;
 use crate::saying::answered;
 use crate::saying::ended;
 use crate::saying::malformed;
-use viewer::check::boundary_check;
-use viewer::count::boundary_count;
-use viewer::hits::boundary_search;
+use viewer::file_check::boundary_check;
+use viewer::file_count::boundary_count;
+use viewer::file_search::boundary_search;
 
 // The most bytes of a query, and of a file.
 const QUERY: usize = 65000;

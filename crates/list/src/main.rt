@@ -4,9 +4,10 @@ ghost use mathlib.Core.Path.{_≡_};
 ghost use mathlib.Core.Bool.{true};
 ghost use Prim.Native.Nat.{_+_, _≤_};
 ghost use lib.ListN.{length};
-ghost use Rattle.query.specs.Ask.{sound};
+ghost use Rattle.query.specs.Ask.{goodQuery};
 use answer::Filled;
 use answer::Refusal;
+use answer::limits::MOST_INPUT;
 use answer::table::MANY;
 use frame::walk::Checked;
 use frame::walk::frame;
@@ -14,11 +15,11 @@ use libc::STDIN_FILENO;
 use libc::STDOUT_FILENO;
 use place::rows::rows;
 use query::ask::Ask;
-use query::block::AskRead;
-use query::block::BlockLen;
-use query::block::ask_of;
-use query::block::block_len;
-use search::search::search_sound;
+use query::query_block::AskRead;
+use query::query_block::BlockLen;
+use query::query_block::ask_of;
+use query::query_block::block_len;
+use search::search::search_good;
 use text::lines::put_hits;
 use text::lines::put_refused;
 use text::lines::put_row;
@@ -111,10 +112,10 @@ fn list_places(places: &[u32], file: &[u8]) {
 
 // What is asked of a file, with room for 4,096 hits.
 fn list(a: Ask, file: &[u8])
-    requires { ⌜ sound (a .query) ≡ true ⌝ }
+    requires { ⌜ goodQuery (a .query) ≡ true ⌝ }
 {
     let mut places = [0u32; 4096];
-    match search_sound(a, file, &mut places) {
+    match search_good(a, file, &mut places) {
         Filled::Start(n) => {
             list_places(&places[..n], file);
         }
@@ -130,7 +131,7 @@ fn answer_to(input: &[u8], len: usize) {
     if n < len {
         return;
     }
-    if 40960 < n - len {
+    if MOST_INPUT < n - len {
         say_refused(Refusal::because(MANY));
         return;
     }

@@ -4,6 +4,10 @@ use answer::Refusal;
 use answer::Verdict;
 use libc::STDOUT_FILENO;
 use text::lines::put_refused;
+use types::rows::EMPTY;
+use types::rows::LINE_STRING;
+use types::rows::POINT;
+use types::rows::POLYGON;
 use writer::Stepped;
 use writer::Writer;
 
@@ -23,7 +27,7 @@ const MINUS_ONE: u64 = 0xBFF0_0000_0000_0000;
 // Register 101, Polygon (0,0) (0,10) (10,10) (10,0) (0,0); register 102, Point (20,5).
 fn first_page(w: Writer, file: &mut [u8]) -> Stepped {
     let registers: [u32; 2] = [101, 102];
-    let types: [u8; 2] = [3, 1];
+    let types: [u8; 2] = [POLYGON, POINT];
     let counts: [u16; 2] = [1, 1];
     let lens: [u16; 2] = [5, 1];
     let xs: [u64; 6] = [ZERO, ZERO, TEN, TEN, ZERO, TWENTY];
@@ -34,7 +38,7 @@ fn first_page(w: Writer, file: &mut [u8]) -> Stepped {
 // Register 101, LineString (-5,-5) (-1,-1); register 103, empty.
 fn second_page(w: Writer, file: &mut [u8]) -> Stepped {
     let registers: [u32; 2] = [101, 103];
-    let types: [u8; 2] = [2, 0];
+    let types: [u8; 2] = [LINE_STRING, EMPTY];
     let counts: [u16; 2] = [1, 0];
     let lens: [u16; 1] = [2];
     let xs: [u64; 2] = [MINUS_FIVE, MINUS_ONE];

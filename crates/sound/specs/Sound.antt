@@ -4,6 +4,7 @@ use Prim.Native.Nat.{ℕ}
 use mathlib.Core.List.{List}
 use lib.Dec.{leb}
 use lib.ListN.{length}
+use Rattle.answer.specs.Limits.{mostInput}
 use Rattle.answer.specs.Table.{many}
 use Rattle.answer.specs.Refusal.{because}
 use Rattle.answer.specs.Outcome.{Out, refused, ok, need}
@@ -14,7 +15,7 @@ use Rattle.text.specs.Lines.{refusedLine, soundLine}
 
 -- 3 for over 40,960 bytes, else the full check
 unfoldable pub judgedOf : List ℕ → Out Totals
-judgedOf s = need (leb (length s) 40960) (because many) (checkOf s)
+judgedOf s = need (leb (length s) mostInput) (because many) (checkOf s)
 
 -- how many pages and shapes, or the refusal with its page, as a line
 unfoldable pub lineOf : Out Totals → List Piece

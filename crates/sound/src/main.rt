@@ -5,6 +5,7 @@ ghost use Rattle.frame.specs.Said.{saidChecked};
 ghost use Rattle.text.specs.Pieces.{Puts};
 ghost use Rattle.sound.specs.Sound.{judgedOf, soundOf};
 use answer::Refusal;
+use answer::limits::MOST_INPUT;
 use answer::table::MANY;
 use file::check::check;
 use frame::walk::Checked;
@@ -17,7 +18,7 @@ use text::lines::put_sound;
 fn judged(input: &[u8]) -> Checked
     ensures { λ r. ⌜ saidChecked r ≡ judgedOf (now (input .entry)) ⌝ }
 {
-    if 40960 < input.len() {
+    if MOST_INPUT < input.len() {
         return Checked::Refused(Refusal::because(MANY));
     }
     check(input)

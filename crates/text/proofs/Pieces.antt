@@ -8,21 +8,21 @@ use lib.Seq.{sets, length-sets, length-take-le}
 use Rattle.io.specs.Counts.{Counts}
 use Rattle.le.proofs.Stores.{sets-append}
 use Rattle.text.specs.Decimal.{decimal}
-use Rattle.text.specs.Pieces.{Piece, words, number, bytesOf, textOf, most, Puts}
+use Rattle.text.specs.Pieces.{Piece, words, number, pieceBytes, textOf, most, Puts}
 use Rattle.text.proofs.Decimals.{decimal-length}
 
 -- the text of a single piece
-pub put-one : (p : Piece) (d t : List ℕ) (at r : ℕ) → r ≡ at + length (bytesOf p) → t ≡ sets d at (bytesOf p) → Puts d at (p ∷ []) r t
+pub put-one : (p : Piece) (d t : List ℕ) (at r : ℕ) → r ≡ at + length (pieceBytes p) → t ≡ sets d at (pieceBytes p) → Puts d at (p ∷ []) r t
 unfolding textOf
 put-one p d t at r e f =
-    let g : bytesOf p ≡ bytesOf p ++ [] = sym (append-nil (bytesOf p)) in
+    let g : pieceBytes p ≡ pieceBytes p ++ [] = sym (append-nil (pieceBytes p)) in
     record { next = e ∙ ap (λ (l : List ℕ). at + length l) g; room = f ∙ ap (sets d at) g }
 
 -- the text of pieces behind pieces
 text-append : (ps qs : List Piece) → textOf (ps ++ qs) ≡ textOf ps ++ textOf qs
 unfolding textOf
 text-append [] qs = refl
-text-append (p ∷ ps) qs = ap (λ (l : List ℕ). bytesOf p ++ l) (text-append ps qs) ∙ sym (append-assoc (bytesOf p) (textOf ps) (textOf qs))
+text-append (p ∷ ps) qs = ap (λ (l : List ℕ). pieceBytes p ++ l) (text-append ps qs) ∙ sym (append-assoc (pieceBytes p) (textOf ps) (textOf qs))
 
 infixr 30 _then_
 -- a text that is put behind a text makes one with it
@@ -36,7 +36,7 @@ _then_ {d} {t} {u} {ps} {qs} {at} {a} {b} p q =
 
 -- the text of pieces takes at most what they can
 pub text-most : (ps : List Piece) → length (textOf ps) ≤ most ps
-unfolding textOf most bytesOf
+unfolding textOf most pieceBytes
 text-most [] = omega arith
 text-most (words l ∷ ps) = omega (arith, length-append l (textOf ps), text-most ps)
 text-most (number n ∷ ps) = omega (arith, length-append (decimal n) (textOf ps), decimal-length n, text-most ps)

@@ -19,14 +19,14 @@ codes no-words = []
 codes (c then s) = code c ∷ codes s
 
 -- the bytes of a piece
-unfoldable pub bytesOf : Piece → List ℕ
-bytesOf (words l) = l
-bytesOf (number n) = decimal n
+unfoldable pub pieceBytes : Piece → List ℕ
+pieceBytes (words l) = l
+pieceBytes (number n) = decimal n
 
 -- the text of pieces: one behind the other
 unfoldable pub textOf : List Piece → List ℕ
 textOf [] = []
-textOf (p ∷ ps) = bytesOf p ++ textOf ps
+textOf (p ∷ ps) = pieceBytes p ++ textOf ps
 
 -- the most bytes that pieces can take: 20 for a number
 unfoldable pub most : List Piece → ℕ

@@ -11,7 +11,7 @@ use Rattle.answer.specs.Outcome.{refused, ok}
 use Rattle.answer.proofs.Outcomes.{ok-inj, need-ok, on-ok}
 use Rattle.column.specs.Column.{encode}
 use Rattle.column.specs.Write.{writeOf}
-use Rattle.column.specs.Read.{saidBy, endOf, closed, someOf, decodeOf, readOf}
+use Rattle.column.specs.Read.{saidBy, endOf, endRules, someOf, decodeOf, readOf}
 use Rattle.column.proofs.Decoding.{length-said}
 use Rattle.column.proofs.Trips.{bytes-most}
 use Rattle.query.specs.declared.ask.Ask.{Ask}
@@ -22,7 +22,7 @@ use Rattle.file.proofs.Checks.{check-accepts}
 use Rattle.search.specs.Search.{hitsOf, searchOf, countOf}
 use Rattle.search.proofs.Rising.{rising-few}
 use Rattle.search.proofs.Ordered.{frame-few, hits-within}
-use Rattle.reader.specs.Next.{ValueOrEnd, value, end}
+use Rattle.step.specs.Step.{ValueOrEnd, value, end}
 use Rattle.shape.specs.Outline.{Shape}
 use Rattle.fetch.specs.Fetch.{shapeIn, Rooms}
 use Rattle.viewer.specs.Word.{wordOf}
@@ -70,9 +70,9 @@ write-fits vs size l e =
     let b = bytes-most vs in
     subst (λ (k : List ℕ). length k ≤ 16385) (ok-inj (y .1)) (omega (arith, h, b))
 
-closed-ok : {A : Type 0} (s : List ℕ) (at : ℕ) (a b : A) → closed s at (ok a) ≡ ok b → a ≡ b
-unfolding closed
-closed-ok s at a b e = let x = need-ok _ _ _ b e in let y = need-ok _ _ _ b (x .1) in ok-inj (y .1)
+ending-ok : {A : Type 0} (s : List ℕ) (at : ℕ) (a b : A) → endRules s at (ok a) ≡ ok b → a ≡ b
+unfolding endRules
+ending-ok s at a b e = let x = need-ok _ _ _ b e in let y = need-ok _ _ _ b (x .1) in ok-inj (y .1)
 
 some-few : (P : ℕ) (s : List ℕ) (n : ℕ) (l : List ℕ) → 0 < n → someOf P s n ≡ ok l → length l ≤ n
 unfolding someOf
@@ -80,11 +80,11 @@ some-few P s n l h e =
     let x = need-ok _ _ _ l e in
     let y = need-ok _ _ _ l (x .1) in
     let q = length-said P s n h in
-    subst (λ (k : List ℕ). length k ≤ n) (closed-ok s (endOf P s n) (saidBy P s n) l (y .1)) (omega (arith, q))
+    subst (λ (k : List ℕ). length k ≤ n) (ending-ok s (endOf P s n) (saidBy P s n) l (y .1)) (omega (arith, q))
 
 decode-few : (P : ℕ) (s : List ℕ) (n : ℕ) (l : List ℕ) → decodeOf P s n ≡ ok l → length l ≤ n
 unfolding decodeOf
-decode-few P s zero l e = subst (λ (k : List ℕ). length k ≤ 0) (closed-ok s 0 [] l e) (omega arith)
+decode-few P s zero l e = subst (λ (k : List ℕ). length k ≤ 0) (ending-ok s 0 [] l e) (omega arith)
 decode-few P s (suc n) l e = some-few P s (suc n) l (omega arith) (simp (ne-eqb (suc n) 0 (λ z. omega arith)) at e)
 
 pub read-fits : (P : ℕ) (s : List ℕ) (n size : ℕ) (l : List ℕ) → readOf P s n size ≡ ok l → length l ≤ 2048

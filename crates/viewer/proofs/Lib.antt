@@ -2,7 +2,7 @@ pub mod Words
 pub mod Stored
 pub mod Telling
 pub mod Stepping
-pub mod Given
+pub mod Lasts
 pub mod Keeping
 pub mod Finding
 pub mod Determined

@@ -12,7 +12,7 @@ use Rattle.answer.proofs.Outcomes.{never, ok-inj, on-ok, in-page-ok}
 use Rattle.shape.specs.Outline.{Shape}
 use Rattle.frame.specs.declared.cursor.Cursor.{Cursor}
 use Rattle.frame.specs.declared.cursor.PageAt.{PageAt}
-use Rattle.frame.specs.Step.{part}
+use Rattle.frame.specs.Next.{part}
 use Rattle.frame.specs.Frame.{Page, frameOf}
 use Rattle.frame.proofs.Heads.{head-is, head-limits}
 use Rattle.frame.proofs.Found.{page-is}

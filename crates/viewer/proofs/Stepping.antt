@@ -9,9 +9,9 @@ use Rattle.answer.specs.declared.Refusal.{Refusal}
 use Rattle.answer.specs.Refusal.{because}
 use Rattle.answer.specs.Outcome.{Out, refused, ok}
 use Rattle.column.specs.declared.Position.{Position}
-use Rattle.reader.specs.declared.Answer.{Answer}
-use Rattle.reader.specs.declared.Answer.the-variants.{Value, End, Refused}
-use Rattle.reader.specs.Next.{ValueOrEnd, value, end, nextOf, answerWith}
+use Rattle.step.specs.declared.Answer.{Answer}
+use Rattle.step.specs.declared.Answer.the-variants.{Value, End, Refused}
+use Rattle.step.specs.Step.{ValueOrEnd, value, end, stepOf, answerWith}
 use Rattle.viewer.specs.Word.{wordOf, Told}
 use Rattle.viewer.specs.Four.{positionOf, positionWords}
 use Rattle.viewer.specs.Calls.{stepCall, gives, moves}
@@ -43,8 +43,8 @@ module _ (s : List ℕ) (n : ℕ) (ws : List ℕ) where
   unfolding stepCall
   step-short x h p = told-refused (because table.room) x (four-short ws _ h) p
 
-  module _ (h : 4 ≤ length ws) (p : Position) (e : p ≡ positionOf ws) (r : Answer) (f : r ≡ answerWith p (nextOf 64 s n p)) where
-    comes : stepCall s n ws ≡ nextOf 64 s n p
+  module _ (h : 4 ≤ length ws) (p : Position) (e : p ≡ positionOf ws) (r : Answer) (f : r ≡ answerWith p (stepOf 64 s n p)) where
+    comes : stepCall s n ws ≡ stepOf 64 s n p
     unfolding stepCall
     comes = four-enough ws _ h ∙ rw e
 

@@ -8,8 +8,8 @@ use Rattle.answer.specs.declared.Filled.{Filled}
 use Rattle.answer.specs.declared.Filled.the-variants as answer
 use Rattle.answer.specs.Outcome.{Out, refused, ok, on, filled, answered, Fills}
 use Rattle.query.specs.declared.ask.Ask.{Ask}
-use Rattle.query.specs.declared.block.AskRead.{AskRead}
-use Rattle.query.specs.declared.block.AskRead.the-variants as read
+use Rattle.query.specs.declared.query_block.AskRead.{AskRead}
+use Rattle.query.specs.declared.query_block.AskRead.the-variants as read
 use Rattle.query.specs.Block as block
 use Rattle.query.specs.Block.{askOf}
 use Rattle.search.specs.Search.{searchOf}

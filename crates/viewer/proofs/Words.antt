@@ -10,8 +10,8 @@ use Rattle.frame.specs.declared.walk.Checked.the-variants.{Sound, Refused}
 use Rattle.frame.specs.Said.{saidChecked}
 use Rattle.file.specs.Check.{checkOf}
 use Rattle.query.specs.declared.ask.Ask.{Ask}
-use Rattle.query.specs.declared.block.AskRead.{AskRead}
-use Rattle.query.specs.declared.block.AskRead.the-variants as read
+use Rattle.query.specs.declared.query_block.AskRead.{AskRead}
+use Rattle.query.specs.declared.query_block.AskRead.the-variants as read
 use Rattle.query.specs.Block as block
 use Rattle.query.specs.Block.{askOf}
 use Rattle.search.specs.declared.count.Counted.{Counted}

@@ -5,9 +5,10 @@ use mathlib.Core.List.{List, []}
 use Rattle.answer.specs.Outcome.{Out, on}
 use Rattle.query.specs.Block.{askOf}
 use Rattle.search.specs.Search.{searchOf}
-use Rattle.reader.specs.Next.{ValueOrEnd, value, end, nextOf}
+use Rattle.step.specs.Step.{ValueOrEnd, value, end, stepOf}
 use Rattle.pageblock.specs.Body.{Handed}
 use Rattle.writer.specs.State.{Added, openOf, pageStepOf, closeOf, bufferAfter}
+use Rattle.answer.specs.Lent.{Lent, came, left}
 use Rattle.viewer.specs.Word.{Told}
 use Rattle.viewer.specs.Four.{fourRule, positionOf, positionWords, stateOf, stateWords}
 
@@ -21,7 +22,7 @@ searchCall query file room = on (askOf query) (λ a. searchOf a file room)
 
 -- fewer than four words is 2; else the call at the position that they are
 unfoldable pub stepCall : List ℕ → ℕ → List ℕ → Out ValueOrEnd
-stepCall column n words = on (fourRule words) (λ _. nextOf 64 column n (positionOf words))
+stepCall column n words = on (fourRule words) (λ _. stepOf 64 column n (positionOf words))
 
 -- it says 1 with a value, 0 at the end
 unfoldable pub gives : ValueOrEnd → ℕ
@@ -55,3 +56,7 @@ nextWords a = stateWords (a .next)
 pub record Kept (o : Out Added) (words d : List ℕ) (says : ℕ) (next left : List ℕ) : Type 0 where
   pub told : Told o (λ _. 0) nextWords words says next
   pub buffer : left ≡ bufferAfter o d
+
+-- the same, of words and a buffer that are lent
+abbrev pub KeptIn : Out Added → Lent → Lent → ℕ → Type 0
+KeptIn o words buffer says = Kept o (came words) (came buffer) says (left words) (left buffer)

@@ -11,6 +11,7 @@ use Rattle.answer.specs.Refusal.{because}
 use Rattle.answer.specs.Outcome.{Out, ok, need, on, filled}
 use Rattle.shape.specs.Outline.{Shape}
 use Rattle.fetch.specs.Fetch.{shapeIn, Rooms, roomy, listOf}
+use Rattle.answer.specs.Lent.{Lent, came, left}
 use Rattle.viewer.specs.Word.{Told}
 
 -- room for four words about the shape, and for its lists
@@ -35,3 +36,7 @@ pub record Shown (o : Out Shape) (about lens xs ys : List ℕ) (says : ℕ) (abo
   pub lens-room : lens-left ≡ filled (listOf (λ x. x .lens) o) lens
   pub xs-room : xs-left ≡ filled (listOf (λ x. x .xs) o) xs
   pub ys-room : ys-left ≡ filled (listOf (λ x. x .ys) o) ys
+
+-- the same, of rooms that are lent
+abbrev pub ShownIn : Out Shape → Lent → Lent → Lent → Lent → ℕ → Type 0
+ShownIn o about lens xs ys says = Shown o (came about) (came lens) (came xs) (came ys) says (left about) (left lens) (left xs) (left ys)

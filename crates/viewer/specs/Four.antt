@@ -8,7 +8,7 @@ use Rattle.answer.specs.Table as table
 use Rattle.answer.specs.Outcome.{Out}
 use Rattle.answer.specs.Rule.{rule}
 use Rattle.column.specs.declared.Position.{Position}
-use Rattle.reader.specs.Next.{position}
+use Rattle.step.specs.Step.{position}
 use Rattle.writer.specs.declared.Writer.{Writer}
 use Rattle.writer.specs.State.{stateWith}
 

@@ -5,6 +5,7 @@ use mathlib.Core.List.{List}
 use Rattle.answer.specs.declared.Filled.{Filled}
 use Rattle.answer.specs.declared.Filled.the-variants as answer
 use Rattle.answer.specs.Outcome.{Out, refused, ok, on, filled}
+use Rattle.answer.specs.Lent.{Lent, came, left}
 
 -- a number below 2 ^ 32, or a refusal
 unfoldable pub wordOf : Out ℕ → ℕ
@@ -21,3 +22,7 @@ saidFilled (answer.Refused w) = refused w
 pub record Told {A : Type 0} (o : Out A) (number : A → ℕ) (start : A → List ℕ) (d : List ℕ) (says : ℕ) (left : List ℕ) : Type 0 where
   pub word : says ≡ wordOf (on o (λ a. ok (number a)))
   pub room : left ≡ filled (on o (λ a. ok (start a))) d
+
+-- the same, of a room that is lent
+abbrev pub ToldIn : {A : Type 0} → Out A → (A → ℕ) → (A → List ℕ) → Lent → ℕ → Type 0
+ToldIn o number start room says = Told o number start (came room) says (left room)

@@ -1,12 +1,12 @@
 // The C face: calls on plain numbers and slices, for the reading-room viewer.
-pub mod check;
 pub mod column_read;
 pub mod column_step;
 pub mod column_write;
-pub mod count;
+pub mod file_check;
+pub mod file_count;
+pub mod file_fetch;
+pub mod file_search;
 mod four;
-pub mod hits;
-pub mod one_shape;
 mod position;
 mod state;
 mod word;

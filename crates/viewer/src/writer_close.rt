@@ -1,6 +1,7 @@
 // A file closed, as one word.
 ghost use lib.ListN.{length};
-ghost use Rattle.viewer.specs.Calls.{closeCall, Kept};
+ghost use Rattle.answer.specs.Lent.{came};
+ghost use Rattle.viewer.specs.Calls.{closeCall, KeptIn};
 use crate::state::hand_back;
 use crate::state::state_of;
 use crate::word::number_word;
@@ -9,7 +10,7 @@ use answer::table::ROOM;
 // 0, with the end block at the state's position and a closed state in the words; or the refusal, which leaves both.
 #[no_mangle]
 pub extern "C" fn boundary_close(writer: &mut [u64], buffer: &mut [u8]) -> u64
-    ensures { λ r. ⌜ Kept (closeCall (now (writer .entry)) (length (now (buffer .entry)))) (now (writer .entry)) (now (buffer .entry)) r (now (writer .exit)) (now (buffer .exit)) ⌝ }
+    ensures { λ r. ⌜ KeptIn (closeCall (came writer) (length (came buffer))) writer buffer r ⌝ }
 {
     if writer.len() < 4 {
         return number_word(ROOM);

@@ -1,6 +1,7 @@
 // The file writer opened, as one word.
 ghost use lib.ListN.{length};
-ghost use Rattle.viewer.specs.Calls.{openCall, Kept};
+ghost use Rattle.answer.specs.Lent.{came};
+ghost use Rattle.viewer.specs.Calls.{openCall, KeptIn};
 use crate::state::hand_back;
 use crate::state::state_of;
 use crate::word::number_word;
@@ -10,7 +11,7 @@ use answer::table::ROOM;
 // is used.
 #[no_mangle]
 pub extern "C" fn boundary_open(writer: &mut [u64], buffer: &mut [u8]) -> u64
-    ensures { λ r. ⌜ Kept (openCall (now (writer .entry)) (length (now (buffer .entry)))) (now (writer .entry)) (now (buffer .entry)) r (now (writer .exit)) (now (buffer .exit)) ⌝ }
+    ensures { λ r. ⌜ KeptIn (openCall (came writer) (length (came buffer))) writer buffer r ⌝ }
 {
     if writer.len() < 4 {
         return number_word(ROOM);

@@ -1,7 +1,8 @@
 // A page added to a file, as one word.
 ghost use lib.ListN.{length};
-ghost use Rattle.pageblock.specs.Body.{handedWith};
-ghost use Rattle.viewer.specs.Calls.{pageCall, Kept};
+ghost use Rattle.pageblock.specs.Body.{handed};
+ghost use Rattle.answer.specs.Lent.{came};
+ghost use Rattle.viewer.specs.Calls.{pageCall, KeptIn};
 use crate::state::hand_back;
 use crate::state::state_of;
 use crate::word::number_word;
@@ -19,7 +20,7 @@ pub extern "C" fn boundary_page(
     xs: &[u64],
     ys: &[u64],
 ) -> u64
-    ensures { λ r. ⌜ Kept (pageCall (now (writer .entry)) (length (now (buffer .entry))) (handedWith (now (registers .entry)) (now (types .entry)) (now (counts .entry)) (now (lens .entry)) (now (xs .entry)) (now (ys .entry)))) (now (writer .entry)) (now (buffer .entry)) r (now (writer .exit)) (now (buffer .exit)) ⌝ }
+    ensures { λ r. ⌜ KeptIn (pageCall (came writer) (length (came buffer)) (handed registers types counts lens xs ys)) writer buffer r ⌝ }
 {
     if writer.len() < 4 {
         return number_word(ROOM);

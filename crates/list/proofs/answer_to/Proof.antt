@@ -2,7 +2,7 @@
 use mathlib.Core.Path.{sym}
 use lib.Seq.{length-take-le}
 use native.Mathlib.Omega.{arith}
-use Rattle.query.proofs.Sounds.{read-sound}
+use Rattle.query.proofs.Good.{read-sound}
 use borrow.Author.Needs.{needs}
 use Rattle.list.proofs.answer_to.Statement.{statement}
 use Rattle.list.proofs.answer_to.Tie as tie

@@ -6,20 +6,20 @@ use borrow.Author.Needs.{needs}
 use Rattle.list.proofs.list.Statement.{statement}
 use Rattle.list.proofs.list.Tie as tie
 
-slice-aggregate-search-sound : tie.Need-slice-aggregate-search-sound
-slice-aggregate-search-sound c = search needs
+slice-aggregate-search-good : tie.Need-slice-aggregate-search-good
+slice-aggregate-search-good c = search needs
 
-search-sound-requires : tie.Need-search-sound-requires
-search-sound-requires c κs = search needs
+search-good-requires : tie.Need-search-good-requires
+search-good-requires c κs = search needs
 
 enum-known-n : tie.Need-enum-known-n
 enum-known-n c = search needs
 
 array-share-prefix-places : tie.Need-array-share-prefix-places
-array-share-prefix-places c = start-fits _ _ _ _ _ (c .before .before .before .before .search-sound .ensures) (c .before .n .given .1)
+array-share-prefix-places c = start-fits _ _ _ _ _ (c .before .before .before .before .search-good .ensures) (c .before .n .given .1)
 
 slice-aggregate-list-places : tie.Need-slice-aggregate-list-places
-slice-aggregate-list-places c = sym (length-take-le _ _ (start-fits _ _ _ _ _ (c .before .before .before .before .before .search-sound .ensures) (c .before .before .n .given .1)))
+slice-aggregate-list-places c = sym (length-take-le _ _ (start-fits _ _ _ _ _ (c .before .before .before .before .before .search-good .ensures) (c .before .before .n .given .1)))
 
 list-places-requires : tie.Need-list-places-requires
 list-places-requires c κs = search needs
@@ -40,8 +40,8 @@ pub list-spec : {M : Type 1} → statement M
 list-spec =
     tie.close
     (tie.spec
-    slice-aggregate-search-sound
-    search-sound-requires
+    slice-aggregate-search-good
+    search-good-requires
     enum-known-n
     array-share-prefix-places
     slice-aggregate-list-places

@@ -4,7 +4,7 @@ use mathlib.Core.Path.{ap, _∙_}
 use native.Mathlib.Omega.{arith}
 use lib.ListN.{length}
 use lib.Seq.{sets}
-use Rattle.text.specs.Pieces.{number, bytesOf, most}
+use Rattle.text.specs.Pieces.{number, pieceBytes, most}
 use Rattle.text.proofs.Decimals.{fewest-20, fewest-decimal}
 use Rattle.text.proofs.Pieces.{put-one, ends}
 use borrow.Author.Needs.{needs}
@@ -36,7 +36,7 @@ same-length : tie.Need-same-length
 same-length c = search needs
 
 returns : tie.Need-returns
-unfolding bytesOf most
+unfolding pieceBytes most
 returns c =
     let start = c .before .before .before .before .before .before .before .before in
     let a = start .args in

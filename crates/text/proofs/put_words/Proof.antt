@@ -1,7 +1,7 @@
 -- `text::put_words` puts a piece of words: the bytes lent. Nothing is assumed.
 use mathlib.Core.Path.{refl}
 use native.Mathlib.Omega.{arith}
-use Rattle.text.specs.Pieces.{words, bytesOf}
+use Rattle.text.specs.Pieces.{words, pieceBytes}
 use Rattle.text.proofs.Pieces.{put-one}
 use borrow.Author.Needs.{needs}
 use Rattle.text.proofs.put_words.Statement.{statement}
@@ -17,7 +17,7 @@ same-length : tie.Need-same-length
 same-length c = search needs
 
 returns : tie.Need-returns
-unfolding bytesOf
+unfolding pieceBytes
 returns c =
     let a = c .before .before .before .before .before .before .args in
     (put-one (words (a .letters .now)) (a .out .now) _ (a .at) _ refl (c .before .before .put-bytes .ensures), omega arith)

@@ -1,8 +1,8 @@
--- `viewer::check::boundary_check` is the word of the full check's answer. Assumes nothing.
+-- `viewer::file_check::boundary_check` is the word of the full check's answer. Assumes nothing.
 use Rattle.viewer.proofs.Words.{word-sound, word-refused}
 use borrow.Author.Needs.{needs}
-use Rattle.viewer.proofs.check.boundary_check.Statement.{statement}
-use Rattle.viewer.proofs.check.boundary_check.Tie as tie
+use Rattle.viewer.proofs.file_check.boundary_check.Statement.{statement}
+use Rattle.viewer.proofs.file_check.boundary_check.Tie as tie
 
 check-requires : tie.Need-check-requires
 check-requires c κs = search needs

@@ -1,7 +1,7 @@
 -- `put_about` puts the four words of what was found. Assumes nothing.
 use borrow.Author.Needs.{needs}
-use Rattle.viewer.proofs.one_shape.put_about.Statement.{statement}
-use Rattle.viewer.proofs.one_shape.put_about.Tie as tie
+use Rattle.viewer.proofs.file_fetch.put_about.Statement.{statement}
+use Rattle.viewer.proofs.file_fetch.put_about.Tie as tie
 
 cast-put-four : tie.Need-cast-put-four
 cast-put-four c = search needs

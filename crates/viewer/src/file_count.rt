@@ -5,10 +5,10 @@ ghost use Rattle.query.specs.Block.{askOf};
 ghost use Rattle.search.specs.Search.{countOf};
 ghost use Rattle.viewer.specs.Word.{wordOf};
 use crate::word::refusal_word;
-use query::block::AskRead;
-use query::block::ask_of;
+use query::query_block::AskRead;
+use query::query_block::ask_of;
 use search::count::Counted;
-use search::count::count_sound;
+use search::count::count_good;
 
 // The number of hits of a query, which is exactly its block; or the refusal, as for the check.
 #[no_mangle]
@@ -17,7 +17,7 @@ pub extern "C" fn boundary_count(query: &[u8], file: &[u8]) -> u64
 {
     match ask_of(query) {
         AskRead::Refused(w) => refusal_word(w),
-        AskRead::Asked(a) => match count_sound(a, file) {
+        AskRead::Asked(a) => match count_good(a, file) {
             Counted::Hits(n) => n as u64,
             Counted::Refused(w) => refusal_word(w),
         },

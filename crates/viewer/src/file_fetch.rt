@@ -7,8 +7,9 @@ ghost use Rattle.answer.specs.Table as table;
 ghost use Rattle.answer.specs.Refusal.{because};
 ghost use Rattle.answer.specs.Outcome.{refused, on};
 ghost use Rattle.fetch.specs.Fetch.{shapeIn, roomsOf};
+ghost use Rattle.answer.specs.Lent.{came};
 ghost use Rattle.viewer.specs.Word.{wordOf};
-ghost use Rattle.viewer.specs.Fetch.{fetchCall, Shown};
+ghost use Rattle.viewer.specs.Fetch.{fetchCall, ShownIn};
 use crate::four::put_four;
 use crate::word::number_word;
 use crate::word::refusal_word;
@@ -55,7 +56,7 @@ pub extern "C" fn boundary_fetch(
     xs: &mut [u64],
     ys: &mut [u64],
 ) -> u64
-    ensures { λ r. ⌜ Shown (fetchCall (now (file .entry)) place (length (now (about .entry))) (roomsOf (now (lens .entry)) (now (xs .entry)) (now (ys .entry)))) (now (about .entry)) (now (lens .entry)) (now (xs .entry)) (now (ys .entry)) r (now (about .exit)) (now (lens .exit)) (now (xs .exit)) (now (ys .exit)) ⌝ }
+    ensures { λ r. ⌜ ShownIn (fetchCall (now (file .entry)) place (length (came about)) (roomsOf (came lens) (came xs) (came ys))) about lens xs ys r ⌝ }
 {
     if about.len() < 4 {
         return without_room(file, place as usize);

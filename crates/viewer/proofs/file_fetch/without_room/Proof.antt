@@ -1,8 +1,8 @@
 -- `without_room` tells what is refused before the room, else 2. Assumes nothing.
 use Rattle.viewer.proofs.Finding.{bare-refused, bare-shape}
 use borrow.Author.Needs.{needs}
-use Rattle.viewer.proofs.one_shape.without_room.Statement.{statement}
-use Rattle.viewer.proofs.one_shape.without_room.Tie as tie
+use Rattle.viewer.proofs.file_fetch.without_room.Statement.{statement}
+use Rattle.viewer.proofs.file_fetch.without_room.Tie as tie
 
 slice-aggregate-fetch : tie.Need-slice-aggregate-fetch
 slice-aggregate-fetch c = search needs

@@ -8,8 +8,8 @@ use Rattle.answer.specs.declared.Refusal.{Refusal}
 use Rattle.answer.specs.Outcome.{Out, refused, ok, need}
 use Rattle.answer.proofs.Outcomes.{on-ok}
 use Rattle.column.specs.declared.Position.{Position}
-use Rattle.column.specs.Read.{closed}
-use Rattle.reader.specs.Next.{ValueOrEnd, value, end, firstCall, laterCall, nextOf}
+use Rattle.column.specs.Read.{endRules}
+use Rattle.step.specs.Step.{ValueOrEnd, value, end, firstCall, laterCall, stepOf}
 use Rattle.viewer.specs.Four.{fourRule, positionOf}
 use Rattle.viewer.specs.Calls.{stepCall}
 
@@ -31,9 +31,9 @@ unfolding Lasts need
 lasts-need true w x h = h
 lasts-need false w x h = tt
 
-lasts-closed : (s : List ℕ) (at : ℕ) → Lasts (closed s at (ok end))
-unfolding Lasts closed
-lasts-closed s at = lasts-need _ _ (need _ _ (ok end)) (lasts-need _ _ (ok end) tt)
+lasts-ending : (s : List ℕ) (at : ℕ) → Lasts (endRules s at (ok end))
+unfolding Lasts endRules
+lasts-ending s at = lasts-need _ _ (need _ _ (ok end)) (lasts-need _ _ (ok end) tt)
 
 lasts-either : (t : Bool) (x y : Out ValueOrEnd) → Lasts x → Lasts y → Lasts (cond t x y)
 lasts-either true x y h k = h
@@ -41,14 +41,14 @@ lasts-either false x y h k = k
 
 lasts-first : (P : ℕ) (s : List ℕ) (n : ℕ) → Lasts (firstCall P s n)
 unfolding firstCall
-lasts-first P s n = lasts-either (eqb n 0) _ _ (lasts-closed s 0) (lasts-need _ _ _ (lasts-need _ _ _ (lasts-need _ _ _ (lasts-value _ _ refl))))
+lasts-first P s n = lasts-either (eqb n 0) _ _ (lasts-ending s 0) (lasts-need _ _ _ (lasts-need _ _ _ (lasts-need _ _ _ (lasts-value _ _ refl))))
 
 lasts-later : (P : ℕ) (s : List ℕ) (n : ℕ) (p : Position) → Lasts (laterCall P s n p)
 unfolding laterCall
-lasts-later P s n p = lasts-need _ _ _ (lasts-need _ _ _ (lasts-either (leb n (p .given)) _ _ (lasts-closed s (p .at)) (lasts-need _ _ _ (lasts-need _ _ _ (lasts-value _ _ refl)))))
+lasts-later P s n p = lasts-need _ _ _ (lasts-need _ _ _ (lasts-either (leb n (p .given)) _ _ (lasts-ending s (p .at)) (lasts-need _ _ _ (lasts-need _ _ _ (lasts-value _ _ refl)))))
 
-lasts-next : (P : ℕ) (s : List ℕ) (n : ℕ) (p : Position) → Lasts (nextOf P s n p)
-unfolding nextOf
+lasts-next : (P : ℕ) (s : List ℕ) (n : ℕ) (p : Position) → Lasts (stepOf P s n p)
+unfolding stepOf
 lasts-next P s n p = lasts-need _ _ _ (lasts-either (eqb (p .given) 0) _ _ (lasts-first P s n) (lasts-later P s n p))
 
 pub value-last : (s : List ℕ) (n : ℕ) (ws : List ℕ) (v : ℕ) (q : Position) → stepCall s n ws ≡ ok (value v q) → q .last ≡ v

@@ -1,11 +1,11 @@
--- `viewer::one_shape::boundary_fetch` tells each answer of the fetch, and puts the words about a shape. Assumes nothing.
+-- `viewer::file_fetch::boundary_fetch` tells each answer of the fetch, and puts the words about a shape. Assumes nothing.
 use Prim.Native.Nat.{_<_}
 use native.Mathlib.Omega.{arith}
 use lib.ListN.{length}
 use Rattle.viewer.proofs.Finding.{shown-short, shown-unfound, shown-found}
 use borrow.Author.Needs.{needs}
-use Rattle.viewer.proofs.one_shape.boundary_fetch.Statement.{statement}
-use Rattle.viewer.proofs.one_shape.boundary_fetch.Tie as tie
+use Rattle.viewer.proofs.file_fetch.boundary_fetch.Statement.{statement}
+use Rattle.viewer.proofs.file_fetch.boundary_fetch.Tie as tie
 
 without-room-requires : tie.Need-without-room-requires
 without-room-requires c κs = search needs
