@@ -11,11 +11,12 @@ use lib.Pow.{pow-pos}
 use borrow.Author.Tests.{leb-true, eqb-true, eqb-false}
 use Rattle.answer.specs.Outcome.{ok}
 use Rattle.answer.proofs.Outcomes.{need-ok}
-use Rattle.le.specs.Number.{number, bytesOf, field, Bytes}
+use Rattle.le.specs.Number.{number, bytesOf, field, Fits, Bytes}
 use Rattle.le.proofs.Numbers.{byte-at}
 use Rattle.le.proofs.Bytes.{bytes-number}
 use Rattle.entry.specs.Fields.{Fld, fld, pack, bits}
-use Rattle.entry.specs.Entry.{Below, below-none, below-more}
+use Rattle.le.proofs.Fitting.{fits-none, fits-more}
+use Rattle.entry.specs.Entry.{values}
 use Rattle.entry.proofs.Reading.{Said, said-all, in-front}
 use Rattle.column.specs.Column.{whole, asBytes, columnWith, IsColumn, column-none, column-some}
 use Rattle.column.specs.Read.{saidBy, endOf, decodeOf, readOf}
@@ -71,9 +72,9 @@ module _ (P : ℕ) (s : List ℕ) (n : ℕ) (vs : List ℕ) (hp : 0 < P) (hb : B
   unfolding saidBy fs
   opened-column = subst (λ (l : List ℕ). IsColumn P s l) (o .list) (subst (λ (x : List ℕ). IsColumn P x (saidBy P s n)) same-bytes (column-some (o .narrow) (read-said .says)))
 
-  opened-below : Below P vs
+  opened-fits : Fits P vs
   unfolding saidBy
-  opened-below = subst (Below P) (o .list) (below-more (mod-lt (number s / 2 ^ 8) (pow-pos P)) (read-said .below))
+  opened-fits = subst (Fits P) (o .list) (fits-more P (field (number s) 8 P) (values P (number s) (getD s 0 0) (n - 1) (8 + P) (field (number s) 8 P)) (mod-lt (number s / 2 ^ 8) (pow-pos P)) (read-said .fits))
 
 pub read-held : (P : ℕ) (s : List ℕ) (n room : ℕ) (vs : List ℕ) → 0 < P → Bytes s → readOf P s n room ≡ ok vs → ColumnHolds P s n room vs
 unfolding readOf
@@ -92,7 +93,7 @@ read-held P s n room vs hp hb h =
         go true e =
             let r = none-ok P s n vs (eqb-true _ _ e) d in
             let sq : s ≡ [] = drop-of-length-le s {i = 0} (le-of-eq (r .0)) in
-            record { column = rw (sq, r .1) column-none; patterns = rw (r .1) below-none; count = count; few = h3; enough = h2 }
+            record { column = rw (sq, r .1) column-none; patterns = rw (r .1) (fits-none P); count = count; few = h3; enough = h2 }
         go false e =
             let o = some-ok P s n vs (eqb-false _ _ e) d in
-            record { column = opened-column P s n vs hp hb o; patterns = opened-below P s n vs hp hb o; count = count; few = h3; enough = h2 }
+            record { column = opened-column P s n vs hp hb o; patterns = opened-fits P s n vs hp hb o; count = count; few = h3; enough = h2 }

@@ -7,7 +7,7 @@ use Rattle.answer.specs.Table as table
 use Rattle.answer.specs.declared.Refusal.{Refusal}
 use Rattle.answer.specs.Refusal.{because}
 use Rattle.answer.specs.Outcome.{ok, on}
-use Rattle.answer.specs.Every.{allOf}
+use Rattle.answer.specs.All.{allOf}
 use Rattle.query.specs.Block.{askOf}
 use Rattle.pageblock.specs.Body.{Handed}
 use Rattle.file.specs.Check.{checkOf}

@@ -29,7 +29,7 @@ use Rattle.place.proofs.Nth.{nth-some, nth-drop}
 use Rattle.fetch.proofs.Opens.{place-seat, seat-refused, seat-contents}
 use Rattle.fetch.proofs.Fetching.{fetch-nth}
 use Rattle.fetch.proofs.Accepted.{seat-within, seat-inside}
-use Rattle.writer.specs.Run.{Call, Held, TypedCalls, fileIn}
+use Rattle.writer.specs.Run.{Call, HalfWritten, TypedCalls, fileIn}
 use Rattle.promises.specs.Numbers as numbers
 use Rattle.promises.specs.Writing.{ended, taken, handedShapes}
 use Rattle.promises.proofs.Numbers.{plain-gives, contents-give}
@@ -87,7 +87,7 @@ listed-never-17 a s room l p k w e h r q = go (shapeIn s p) refl r
     go (ok x) c f = tested (roomy k (x .outline)) x f
 
 -- every shape as it was handed in
-pub written-fetched : (h : Held) (cs : List Call) (l : 8 ≤ length (h .buffer)) (t : TypedCalls cs) (n : ℕ) (r : Rooms) (x : Shape) (rest : List Shape)
+pub written-fetched : (h : HalfWritten) (cs : List Call) (l : 8 ≤ length (h .buffer)) (t : TypedCalls cs) (n : ℕ) (r : Rooms) (x : Shape) (rest : List Shape)
     → ended h cs .state .closed ≡ true → drop n (handedShapes (taken h cs)) ≡ x ∷ rest
     → roomy r (x .outline) ≡ true → fetchOf (fileIn (ended h cs)) n r ≡ ok x
 written-fetched h cs l t n r x rest c d = fetch-is (fileIn (ended h cs)) n r (handedShapes (taken h cs)) x rest (closed-shapes h cs l t c) d

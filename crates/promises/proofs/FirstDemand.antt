@@ -52,8 +52,8 @@ pub search-determined : (a : Ask) (s d : List ℕ) {r r′ : Filled} {e e′ : L
 search-determined a s d = determined
 
 -- a page's block: what was handed in, room d
-pub block-determined : (i : Handed) (d : List ℕ) {r r′ : Filled} {e e′ : List ℕ} → Fills (pageBlockOf (length d) i) d r e → Fills (pageBlockOf (length d) i) d r′ e′ → (r ≡ r′) × (e ≡ e′)
-block-determined i d = determined
+pub block-determined : (ed : ℕ) (i : Handed) (d : List ℕ) {r r′ : Filled} {e e′ : List ℕ} → Fills (pageBlockOf ed (length d) i) d r e → Fills (pageBlockOf ed (length d) i) d r′ e′ → (r ≡ r′) × (e ≡ e′)
+block-determined ed i d = determined
 
 -- the frame, the full check, and the count
 pub frame-determined : (s : List ℕ) (r r′ : Checked) → saidChecked r ≡ on (frameOf s) (λ f. ok (totalsOf f)) → saidChecked r′ ≡ on (frameOf s) (λ f. ok (totalsOf f)) → r ≡ r′
@@ -83,9 +83,9 @@ step-determined st d = writer.determined
 -- ---- what a refusal leaves
 
 -- a lent room: every element as it was
-pub refused-room : {o : Out (List ℕ)} {d : List ℕ} {r : Filled} {e : List ℕ} (w : Refusal) → o ≡ refused w → Fills o d r e → (r ≡ filled-is.Refused w) × (e ≡ d)
+pub refused-leaves-room : {o : Out (List ℕ)} {d : List ℕ} {r : Filled} {e : List ℕ} (w : Refusal) → o ≡ refused w → Fills o d r e → (r ≡ filled-is.Refused w) × (e ≡ d)
 unfolding filled answered
-refused-room {d = d} w h f = (f .answer ∙ ap answered h, f .room ∙ ap (λ (x : Out (List ℕ)). filled x d) h)
+refused-leaves-room {d = d} w h f = (f .answer ∙ ap answered h, f .room ∙ ap (λ (x : Out (List ℕ)). filled x d) h)
 
 -- a fetch's three rooms
 pub refused-fetch : {o : Out Shape} {dl dx dy : List ℕ} {r : Fetched} {el ex ey : List ℕ} (w : Refusal) → o ≡ refused w → Fetches o dl dx dy r el ex ey

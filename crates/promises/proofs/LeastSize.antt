@@ -60,8 +60,8 @@ pub room-refused : (P : ℕ) (vs : List ℕ) (size : ℕ) → length vs ≤ 2048
 room-refused P vs size h none =
     write-room P vs size h (subst (λ (x : List ℕ). size < length x) (encode-is P (widthOf P vs) vs refl) (none (widthOf P vs) (width-least P vs .within)))
 
-pub refused-room : (P : ℕ) (vs : List ℕ) (size : ℕ) → writeOf P vs size ≡ refused (because Table.room) → (length vs ≤ 2048) × NoneFits P vs size
-refused-room P vs size h = go (leb (length vs) 2048) refl
+pub refused-by-room : (P : ℕ) (vs : List ℕ) (size : ℕ) → writeOf P vs size ≡ refused (because Table.room) → (length vs ≤ 2048) × NoneFits P vs size
+refused-by-room P vs size h = go (leb (length vs) 2048) refl
   where
     over : 2048 < length vs → ⊥
     over l =

@@ -10,14 +10,14 @@ use borrow.Author.Tests.{eqb-true}
 use Rattle.answer.specs.declared.Refusal.{Refusal}
 use Rattle.answer.specs.Table as table
 use Rattle.answer.specs.Refusal.{because}
-use Rattle.answer.specs.Every.{allOf}
+use Rattle.answer.specs.All.{allOf}
 use Rattle.answer.specs.Outcome.{Out, refused, ok, on, inPage}
 use Rattle.answer.proofs.Both.{no-both, both, both-l, both-r}
-use Rattle.le.specs.Block.{blockAt}
+use Rattle.block.specs.Block.{blockAt}
 use Rattle.column.specs.Write.{writeOf}
-use Rattle.column.specs.Read.{closed, someOf, decodeOf, readOf}
+use Rattle.column.specs.Read.{endRules, someOf, decodeOf, readOf}
 use Rattle.column.specs.declared.Position.{Position}
-use Rattle.reader.specs.Next as step
+use Rattle.step.specs.Step as step
 use Rattle.extent.specs.Boxes.{patterns}
 use Rattle.query.specs.declared.ask.Ask.{Ask}
 use Rattle.query.specs.Ask.{opens}
@@ -25,14 +25,15 @@ use Rattle.query.specs.Block.{instead, lenOf, blockLen, spotAsked, windowAsked,
 use Rattle.types.specs.Parts.{partsRule}
 use Rattle.shape.specs.Outline.{Outline, Shape}
 use Rattle.shape.specs.Rules.{finiteRule, ringRule, gridRule, turnRule, boxRule, outlineRules}
+use Rattle.frame.specs.Layout.{theEdition}
 use Rattle.frame.specs.declared.cursor.Cursor.{Cursor}
 use Rattle.frame.specs.declared.cursor.PageAt.{PageAt}
 use Rattle.frame.specs.declared.head.Head.{Head}
 use Rattle.frame.specs.Head.{sizedHead, headOf}
-use Rattle.frame.specs.Step.{Turn, firstStep, firstOf, pageStep, endStep, kindStep, stepOf}
-use Rattle.frame.specs.Step as turn
+use Rattle.frame.specs.Next.{NextBlock, asFirst, firstOf, asPage, asEnd, byKind, nextOf}
+use Rattle.frame.specs.Next as turn
 use Rattle.frame.specs.Frame as framed
-use Rattle.frame.specs.Frame.{Page, turned, walk, frameOf}
+use Rattle.frame.specs.Frame.{Page, pageOrEnd, walk, frameOf}
 use Rattle.page.specs.Contents.{verticesOf, contentsOf}
 use Rattle.pageblock.specs.Body.{Handed}
 use Rattle.pageblock.specs.Page.{countsRule, pageRules, pageWritten, roomFor, pageBlockOf}
@@ -100,18 +101,18 @@ pub write-gives : (P : ℕ) (vs : List ℕ) (size : ℕ) → Plain numbers.colum
 unfolding writeOf listed
 write-gives P vs size = need-gives _ _ _ _ refl (need-gives _ _ _ _ refl (ok-gives _ _))
 
-closed-gives : {A : Type 0} (Such : Refusal → Type 0) (s : List ℕ) (e : ℕ) (o : Out A) → Such (because 9) → Such (because 10) → Refuses Such o → Refuses Such (closed s e o)
-unfolding closed
-closed-gives Such s e o h k g = need-gives _ _ _ _ h (need-gives _ _ _ _ k g)
+ending-gives : {A : Type 0} (Such : Refusal → Type 0) (s : List ℕ) (e : ℕ) (o : Out A) → Such (because 9) → Such (because 10) → Refuses Such o → Refuses Such (endRules s e o)
+unfolding endRules
+ending-gives Such s e o h k g = need-gives _ _ _ _ h (need-gives _ _ _ _ k g)
 
 -- a column's bytes, whatever the room: 8, 9, 10
 some-gives : (P : ℕ) (s : List ℕ) (n : ℕ) → Plain numbers.columnBits (someOf P s n)
 unfolding someOf listed
-some-gives P s n = need-gives _ _ _ _ refl (need-gives _ _ _ _ refl (closed-gives _ _ _ _ refl refl (ok-gives _ _)))
+some-gives P s n = need-gives _ _ _ _ refl (need-gives _ _ _ _ refl (ending-gives _ _ _ _ refl refl (ok-gives _ _)))
 
 decode-gives : (P : ℕ) (s : List ℕ) (n : ℕ) → Plain numbers.columnBits (decodeOf P s n)
 unfolding decodeOf listed
-decode-gives P s n = cond-gives _ (eqb n 0) (closed s 0 (ok [])) (someOf P s n) (closed-gives _ _ _ _ refl refl (ok-gives _ _)) (some-gives P s n)
+decode-gives P s n = cond-gives _ (eqb n 0) (endRules s 0 (ok [])) (someOf P s n) (ending-gives _ _ _ _ refl refl (ok-gives _ _)) (some-gives P s n)
 
 pub read-gives : (P : ℕ) (s : List ℕ) (n size : ℕ) → Plain numbers.columnRead (readOf P s n size)
 unfolding readOf listed allOf
@@ -119,18 +120,18 @@ read-gives P s n size = need-gives _ _ _ _ refl (need-gives _ _ _ _ refl (plaine
 
 next-gives : (P : ℕ) (s : List ℕ) (n : ℕ) → Plain numbers.columnStep (step.firstCall P s n)
 unfolding step.firstCall listed
-next-gives P s n = cond-gives _ (eqb n 0) (closed s 0 (ok step.end)) _ (closed-gives _ _ _ _ refl refl (ok-gives _ _)) (need-gives _ _ _ _ refl (need-gives _ _ _ _ refl (need-gives _ _ _ _ refl (ok-gives _ _))))
+next-gives P s n = cond-gives _ (eqb n 0) (endRules s 0 (ok step.end)) _ (ending-gives _ _ _ _ refl refl (ok-gives _ _)) (need-gives _ _ _ _ refl (need-gives _ _ _ _ refl (need-gives _ _ _ _ refl (ok-gives _ _))))
 
 later-gives : (P : ℕ) (s : List ℕ) (n : ℕ) (p : Position) → Plain numbers.columnStep (step.laterCall P s n p)
 unfolding step.laterCall listed
 later-gives P s n p =
     need-gives _ _ _ _ refl
     (need-gives _ _ _ _ refl
-    (cond-gives _ (leb n (p .given)) (closed s (p .at) (ok step.end)) _ (closed-gives _ _ _ _ refl refl (ok-gives _ _))
+    (cond-gives _ (leb n (p .given)) (endRules s (p .at) (ok step.end)) _ (ending-gives _ _ _ _ refl refl (ok-gives _ _))
     (need-gives _ _ _ _ refl (need-gives _ _ _ _ refl (ok-gives _ _)))))
 
-pub step-gives : (P : ℕ) (s : List ℕ) (n : ℕ) (p : Position) → Plain numbers.columnStep (step.nextOf P s n p)
-unfolding step.nextOf listed
+pub step-gives : (P : ℕ) (s : List ℕ) (n : ℕ) (p : Position) → Plain numbers.columnStep (step.stepOf P s n p)
+unfolding step.stepOf listed
 step-gives P s n p = need-gives _ _ _ _ refl (cond-gives _ (eqb (p .given) 0) (step.firstCall P s n) (step.laterCall P s n p) (next-gives P s n) (later-gives P s n p))
 
 -- ---- the query's block
@@ -162,7 +163,7 @@ unfolding blockAt listed
 block-gives s at = need-gives _ _ _ _ refl (ok-gives _ _)
 
 pub first-gives : (s : List ℕ) → Plain numbers.frame (firstOf s)
-unfolding firstOf firstStep listed
+unfolding firstOf asFirst listed
 first-gives s =
     on-gives _ _ _ (block-gives s 0) (λ b. need-gives _ _ _ _ refl (need-gives _ _ _ _ refl (need-gives _ _ _ _ refl (ok-gives _ _))))
 
@@ -172,8 +173,8 @@ head-gives edition b =
     need-gives _ _ _ _ refl
     (need-gives _ _ _ _ refl (need-gives _ _ _ _ refl (need-gives _ _ _ _ refl (need-gives _ _ _ _ refl (ok-gives _ _)))))
 
-turn-gives : (s : List ℕ) (c : Cursor) → Gives numbers.frame (stepOf s c)
-unfolding stepOf kindStep pageStep endStep listed
+turn-gives : (s : List ℕ) (c : Cursor) → Gives numbers.frame (nextOf s c)
+unfolding nextOf byKind asPage asEnd listed
 turn-gives s c =
     page-gives numbers.frame _ _
     (on-gives _ _ _ (block-gives s (c .at)) (λ b.
@@ -186,8 +187,8 @@ unfolding walk listed
 walk-gives zero s c = refused-gives _ _ refl
 walk-gives (suc n) s c = on-gives _ _ _ (turn-gives s c) (λ t. go (λ p. walk-gives n s (p .next)) t)
   where
-    go : ((p : PageAt) → Gives numbers.frame (walk n s (p .next))) → (t : Turn)
-        → Gives numbers.frame (turned t (λ p. on (walk n s (p .next)) (λ ps. ok (framed.pageOf s p ∷ ps))) (ok []))
+    go : ((p : PageAt) → Gives numbers.frame (walk n s (p .next))) → (t : NextBlock)
+        → Gives numbers.frame (pageOrEnd t (λ p. on (walk n s (p .next)) (λ ps. ok (framed.pageOf s p ∷ ps))) (ok []))
     go g (turn.page p) = on-gives _ _ _ (g p) (λ ps. ok-gives _ _)
     go g turn.end = ok-gives _ _
 
@@ -307,20 +308,20 @@ rules-give i =
     on-gives _ _ _ (rule-gives _ _ _ refl) (λ _.
     on-gives _ _ _ (rule-gives _ _ _ refl) (λ _. outlines-give _ _ (i .xs) (i .ys) refl refl refl refl))
 
-bytes-give : (i : Handed) → Plain numbers.pageBlock (pageWritten i)
+bytes-give : (ed : ℕ) (i : Handed) → Plain numbers.pageBlock (pageWritten ed i)
 unfolding pageWritten
-bytes-give i = on-gives _ _ _ (rules-give i) (λ _. ok-gives _ _)
+bytes-give ed i = on-gives _ _ _ (rules-give i) (λ _. ok-gives _ _)
 
-pub page-block-gives : (room : ℕ) (i : Handed) → Plain numbers.pageBlock (pageBlockOf room i)
+pub page-block-gives : (ed room : ℕ) (i : Handed) → Plain numbers.pageBlock (pageBlockOf ed room i)
 unfolding pageBlockOf roomFor listed
-page-block-gives room i = on-gives _ _ _ (bytes-give i) (λ bytes. need-gives _ _ _ _ refl (ok-gives _ _))
+page-block-gives ed room i = on-gives _ _ _ (bytes-give ed i) (λ bytes. need-gives _ _ _ _ refl (ok-gives _ _))
 
 pub page-step-gives : (st : Writer) (room : ℕ) (i : Handed) → Plain numbers.writerPage (pageStepOf st room i)
 unfolding pageStepOf openRule pagesRule putAt listed allOf
 page-step-gives st room i =
     on-gives _ _ _ (rule-gives _ _ _ refl) (λ _.
     on-gives _ _ _ (rule-gives _ _ _ refl) (λ _.
-    on-gives _ _ _ (plainer numbers.pageBlock numbers.writerPage refl _ (bytes-give i)) (λ bytes. need-gives _ _ _ _ refl (ok-gives _ _))))
+    on-gives _ _ _ (plainer numbers.pageBlock numbers.writerPage refl _ (bytes-give theEdition i)) (λ bytes. need-gives _ _ _ _ refl (ok-gives _ _))))
 
 pub close-gives : (st : Writer) (room : ℕ) → Plain numbers.writerClose (closeOf st room)
 unfolding closeOf openRule totalsRule putAt listed

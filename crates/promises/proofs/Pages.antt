@@ -6,12 +6,12 @@ use mathlib.Core.Bool.{true}
 use mathlib.Core.List.{List, [], _∷_}
 use Rattle.answer.specs.Refusal.{because}
 use Rattle.answer.specs.Outcome.{Out, ok}
-use Rattle.answer.specs.Every.{allOf}
+use Rattle.answer.specs.All.{allOf}
 use Rattle.answer.proofs.Outcomes.{on-ok}
 use Rattle.column.specs.Write.{writeOf}
 use Rattle.column.specs.Read.{readOf}
 use Rattle.column.specs.declared.Position.{Position}
-use Rattle.reader.specs.Next.{nextOf}
+use Rattle.step.specs.Step.{stepOf}
 use Rattle.query.specs.declared.ask.Ask.{Ask}
 use Rattle.query.specs.Block.{blockLen, askOf}
 use Rattle.frame.specs.Frame.{Page, Frame, frameOf}
@@ -45,7 +45,7 @@ pub read-page : (P : ℕ) (s : List ℕ) (n size : ℕ) → NoPage (readOf P s n
 read-page P s n size = plain-no-page numbers.columnRead _ (gives.read-gives P s n size)
 
 -- one value a call
-pub step-page : (P : ℕ) (s : List ℕ) (n : ℕ) (p : Position) → NoPage (nextOf P s n p)
+pub step-page : (P : ℕ) (s : List ℕ) (n : ℕ) (p : Position) → NoPage (stepOf P s n p)
 step-page P s n p = plain-no-page numbers.columnStep _ (gives.step-gives P s n p)
 
 -- the query's block, its length and what it asks
@@ -56,8 +56,8 @@ pub ask-page : (s : List ℕ) → NoPage (askOf s)
 ask-page s = plain-no-page (1 ∷ []) _ (gives.ask-gives s)
 
 -- a page's block
-pub page-block-page : (room : ℕ) (i : Handed) → NoPage (pageBlockOf room i)
-page-block-page room i = plain-no-page numbers.pageBlock _ (gives.page-block-gives room i)
+pub page-block-page : (ed room : ℕ) (i : Handed) → NoPage (pageBlockOf ed room i)
+page-block-page ed room i = plain-no-page numbers.pageBlock _ (gives.page-block-gives ed room i)
 
 -- the writer: open, page, close
 pub open-page : (room : ℕ) → NoPage (openOf room)

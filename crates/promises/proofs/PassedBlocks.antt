@@ -10,10 +10,10 @@ use Rattle.answer.specs.Outcome.{refused, ok, on}
 use Rattle.le.specs.Number.{bytesOf, Bytes}
 use Rattle.frame.specs.declared.cursor.Cursor.{Cursor}
 use Rattle.frame.specs.declared.cursor.PageAt.{PageAt}
-use Rattle.frame.specs.Step.{Turn, page, end, part, firstOf, stepOf}
-use Rattle.frame.specs.Frame.{Page, turned, pageOf, walk, frameOf}
+use Rattle.frame.specs.Next.{NextBlock, page, end, part, firstOf, nextOf}
+use Rattle.frame.specs.Frame.{Page, pageOrEnd, pageOf, walk, frameOf}
 use Rattle.frame.specs.Whole.{blockOf, pageBlocks}
-use Rattle.frame.proofs.Steps.{step-page}
+use Rattle.frame.proofs.Ways.{step-page}
 use Rattle.frame.proofs.Found.{first-is, page-is}
 use Rattle.frame.specs.Ahead.{Within}
 use Rattle.frame.proofs.Walks.{pages-on, within-on, fuel, fuel-on, walk-refused, walk-page}
@@ -43,7 +43,7 @@ module _ (s : List ℕ) where
 
 module _ (s : List ℕ) where
   -- what is refused at a cursor is refused behind as many page blocks as its page number says
-  step-behind : {k : ℕ} {c : Cursor} → Passed s k c → Refuses (InFrame s) (stepOf s c)
+  step-behind : {k : ℕ} {c : Cursor} → Passed s k c → Refuses (InFrame s) (nextOf s c)
   step-behind {c = c} q = record { such = λ w e. behind c (subst (λ (n : ℕ). Passed s n c) (sym (step-page s c w e ∙ passed-counts s q)) q) e }
 
   -- and so is whatever the walk from there refuses; it never runs out of blocks
@@ -53,8 +53,8 @@ module _ (s : List ℕ) where
   walk-behind (suc n) k c q h =
       after-gives _ _ _ (step-behind q) (λ t e. go (λ p f. walk-behind n (suc k) (p .next) (more q f) (omega (arith, h))) t e)
     where
-      go : ((p : PageAt) → stepOf s c ≡ ok (page p) → Refuses (InFrame s) (walk n s (p .next))) → (t : Turn) → stepOf s c ≡ ok t
-          → Refuses (InFrame s) (turned t (λ p. on (walk n s (p .next)) (λ ps. ok (pageOf s p ∷ ps))) (ok []))
+      go : ((p : PageAt) → nextOf s c ≡ ok (page p) → Refuses (InFrame s) (walk n s (p .next))) → (t : NextBlock) → nextOf s c ≡ ok t
+          → Refuses (InFrame s) (pageOrEnd t (λ p. on (walk n s (p .next)) (λ ps. ok (pageOf s p ∷ ps))) (ok []))
       go g (page p) e = on-gives _ _ _ (g p e) (λ ps. ok-gives _ _)
       go g end e = ok-gives _ _
 
@@ -86,7 +86,7 @@ module _ (s : List ℕ) (w : Refusal) where
       ∙ on-refused (walk (1024 - c .pages) s (p .next)) _ w (ap (λ (n : ℕ). walk n s (p .next)) (sym f) ∙ h)))
 
   -- a block that is refused behind k page blocks refuses the frame, with page number k
-  pub behind-frame : {k : ℕ} {c : Cursor} → Passed s k c → stepOf s c ≡ refused w → (frameOf s ≡ refused w) × (w .page ≡ k)
+  pub behind-frame : {k : ℕ} {c : Cursor} → Passed s k c → nextOf s c ≡ refused w → (frameOf s ≡ refused w) × (w .page ≡ k)
   behind-frame {c = c} q e =
       (walk-refuses q (rw (fuel c (passed-within s q)) (walk-refused s c (1024 - c .pages) w e)), step-page s c w e ∙ passed-counts s q)
 
@@ -102,7 +102,7 @@ module _ (s : List ℕ) (y : Bytes s) where
       ∙ ap₂ (λ (x : List ℕ) (i : ℕ). blockOf 1 x ++ drop i s) b (sym (ap (λ (x : Cursor). x .at) (k .after)))
 
   -- a page block, as it stands
-  page-bytes : (c : Cursor) (p : PageAt) → stepOf s c ≡ ok (page p) → drop (c .at) s ≡ blockOf 2 (pageOf s p .body) ++ drop (p .next .at) s
+  page-bytes : (c : Cursor) (p : PageAt) → nextOf s c ≡ ok (page p) → drop (c .at) s ≡ blockOf 2 (pageOf s p .body) ++ drop (p .next .at) s
   page-bytes c p e =
       let k = page-is s c p e in
       stands-block s (c .at) 2 (p .body) (p .len) y (k .stands)

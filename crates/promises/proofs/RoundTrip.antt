@@ -8,7 +8,7 @@ use lib.ListN.{length}
 use borrow.Author.Tests.{leb-true}
 use Rattle.answer.specs.Outcome.{ok}
 use Rattle.answer.proofs.Outcomes.{need-ok, ok-inj}
-use Rattle.entry.specs.Entry.{Below}
+use Rattle.le.specs.Number.{Fits}
 use Rattle.width.specs.Width.{widthOf}
 use Rattle.width.proofs.Sizes.{width-least}
 use Rattle.column.specs.Column.{IsColumn, encodeAt, encode}
@@ -19,7 +19,7 @@ use Rattle.column.proofs.Trips as trips
 
 -- ---- what is a column of a list is read as that list
 
-pub reads-column : (P : ℕ) {s vs : List ℕ} (room : ℕ) → P < 256 → Below P vs → IsColumn P s vs → length vs ≤ 2048 → length vs ≤ room → readOf P s (length vs) room ≡ ok vs
+pub reads-column : (P : ℕ) {s vs : List ℕ} (room : ℕ) → P < 256 → Fits P vs → IsColumn P s vs → length vs ≤ 2048 → length vs ≤ room → readOf P s (length vs) room ≡ ok vs
 reads-column P {s} {vs} room hP hb k h3 h2 = read-decode P s (length vs) room h3 h2 ∙ trips.decodes-column P hP hb k
 
 -- the bytes at width n are a column of the list
@@ -29,12 +29,12 @@ written-column = trips.written-column
 -- ---- the round trip
 
 -- at every width
-pub round-trip : (P n : ℕ) (vs : List ℕ) (room : ℕ) → n ≤ P → P < 256 → Below P vs → length vs ≤ 2048 → length vs ≤ room
+pub round-trip : (P n : ℕ) (vs : List ℕ) (room : ℕ) → n ≤ P → P < 256 → Fits P vs → length vs ≤ 2048 → length vs ≤ room
     → readOf P (encodeAt P n vs) (length vs) room ≡ ok vs
 round-trip P n vs room hn hP hb h3 h2 = reads-column P room hP hb (written-column P n vs hn) h3 h2
 
 -- and so for what the writer gives
-pub round-trip-written : (P : ℕ) (vs s : List ℕ) (size room : ℕ) → P < 256 → Below P vs → writeOf P vs size ≡ ok s → length vs ≤ room
+pub round-trip-written : (P : ℕ) (vs s : List ℕ) (size room : ℕ) → P < 256 → Fits P vs → writeOf P vs size ≡ ok s → length vs ≤ room
     → readOf P s (length vs) room ≡ ok vs
 unfolding writeOf encode
 round-trip-written P vs s size room hP hb h h2 =

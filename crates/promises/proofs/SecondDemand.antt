@@ -8,8 +8,7 @@ use native.Mathlib.Omega.{arith}
 use lib.ListN.{length}
 use Rattle.answer.specs.Outcome.{ok}
 use Rattle.answer.proofs.Outcomes.{ok-inj}
-use Rattle.le.specs.Number.{Bytes}
-use Rattle.entry.specs.Entry.{Below}
+use Rattle.le.specs.Number.{Fits, Bytes}
 use Rattle.width.specs.Width.{S, zsOf, widthOf}
 use Rattle.column.specs.Column.{IsColumn, encodeAt, encode}
 use Rattle.column.specs.Write.{writeOf}
@@ -25,11 +24,11 @@ use Rattle.promises.proofs.SoundFiles.{accepted-sound}
 use Rattle.promises.proofs.Obeyed.{sound-obeys}
 
 -- reading what was written gives back each pattern
-pub reads-back : (vs s : List ℕ) (size room : ℕ) → Below 64 vs → writeOf 64 vs size ≡ ok s → length vs ≤ room → readOf 64 s (length vs) room ≡ ok vs
+pub reads-back : (vs s : List ℕ) (size room : ℕ) → Fits 64 vs → writeOf 64 vs size ≡ ok s → length vs ≤ room → readOf 64 s (length vs) room ≡ ok vs
 reads-back vs s size room b = round-trip-written 64 vs s size room (omega arith) b
 
 -- and so does reading what any writer wrote by the rules, at any width, with full values where steps would have fitted
-pub reads-any : (vs s : List ℕ) (room : ℕ) → Below 64 vs → IsColumn 64 s vs → length vs ≤ 2048 → length vs ≤ room → readOf 64 s (length vs) room ≡ ok vs
+pub reads-any : (vs s : List ℕ) (room : ℕ) → Fits 64 vs → IsColumn 64 s vs → length vs ≤ 2048 → length vs ≤ room → readOf 64 s (length vs) room ≡ ok vs
 reads-any vs s room b = reads-column 64 room (omega arith) b
 
 -- no permitted width would have taken fewer bits, nor fewer bytes

@@ -11,7 +11,7 @@ use Rattle.answer.proofs.Outcomes.{ok-inj, on-ok, in-page-ok}
 use Rattle.answer.proofs.Rules.{rule-holds, rule-ok}
 use Rattle.answer.proofs.Both.{both}
 use Rattle.le.specs.Number.{bytesOf, Bytes}
-use Rattle.le.specs.Block as block
+use Rattle.block.specs.Block as block
 use Rattle.le.proofs.Numbers.{bytes-part}
 use Rattle.column.specs.Read.{decodeOf}
 use Rattle.column.proofs.Decoding.{read-decode}
@@ -26,7 +26,7 @@ use Rattle.frame.specs.declared.walk.Totals.{Totals}
 use Rattle.frame.specs.Head.{headOf}
 use Rattle.frame.specs.Frame.{Page, Frame, totalsOf}
 use Rattle.frame.specs.Frame as frame
-use Rattle.frame.specs.Whole.{Every, none, more, blockOf, pageBlocks, endBlock, fileOf}
+use Rattle.frame.specs.Whole.{AllSay, none, more, blockOf, pageBlocks, endBlock, fileOf}
 use Rattle.frame.proofs.Heads.{head-is, head-limits}
 use Rattle.frame.proofs.Wholes.{frame-is, is-frame}
 use Rattle.page.specs.Contents.{typesOf, countsOf, lensOf, xPart, yPart, Vertices, verticesOf, contentsOf}
@@ -135,14 +135,14 @@ module _ (h : Head) (b : List ℕ) (y : Bytes b) where
 few-in : (p : Page) → headOf 1 (p .body) ≡ ok (p .head) → p .head .v ≤ 2048
 few-in p e = head-limits 1 (p .body) (p .head) (head-is 1 (p .body) (p .head) e) .vertices
 
-pub sound-pages : (k : ℕ) {ps : List Page} {shapes : List Shape} → Every 1 ps → SoundPages ps shapes → pagesOf k ps ≡ ok shapes
+pub sound-pages : (k : ℕ) {ps : List Page} {shapes : List Shape} → AllSay 1 ps → SoundPages ps shapes → pagesOf k ps ≡ ok shapes
 unfolding pagesOf
 sound-pages k none sound.none = refl
 sound-pages k (more {p = p} {ps = ps} says rest) (sound.more {here = here} {rest = others} page pages) =
     pages-first k p ps here (sound-page (p .head) (p .body) here (few-in p (says .headed)) page)
     ∙ on-value (pagesOf (suc k) ps) _ others (sound-pages (suc k) rest pages)
 
-pub pages-sound : (k : ℕ) {ps : List Page} (shapes : List Shape) → Every 1 ps → Bytes (pageBlocks ps) → pagesOf k ps ≡ ok shapes → SoundPages ps shapes
+pub pages-sound : (k : ℕ) {ps : List Page} (shapes : List Shape) → AllSay 1 ps → Bytes (pageBlocks ps) → pagesOf k ps ≡ ok shapes → SoundPages ps shapes
 unfolding pagesOf pageBlocks blockOf inPage
 pages-sound k shapes none y e = subst (SoundPages []) (ok-inj e) sound.none
 pages-sound k shapes (more {p = p} {ps = ps} says rest) y e =

@@ -13,7 +13,7 @@ use Rattle.answer.proofs.Outcomes.{ok-inj, on-ok, in-page-ok}
 use Rattle.answer.proofs.Both.{not-true}
 use Rattle.query.specs.declared.ask.Ask.{Ask}
 use Rattle.query.specs.declared.ask.Query.the-variants.{Everything}
-use Rattle.query.specs.Ask.{sound, hit}
+use Rattle.query.specs.Ask.{goodQuery, hit}
 use Rattle.query.proofs.Asking.{hit-everything, hit-none}
 use Rattle.shape.specs.Outline.{Shape}
 use Rattle.frame.specs.declared.walk.Totals.{Totals}
@@ -49,7 +49,7 @@ accepted-shapes s t e =
     let a = check-accepts s t e in
     (a .1, shapes-are s (a .0) (a .2) ∙ a .3, pages-many (a .0 .pages) 0 (a .1) (a .3) ∙ ap (λ (x : Totals). x .shapes) (a .4))
 
-module _ (s : List ℕ) (ss : List Shape) (e : shapesIn s ≡ ok ss) (a : Ask) (q : sound (a .query) ≡ true) where
+module _ (s : List ℕ) (ss : List Shape) (e : shapesIn s ≡ ok ss) (a : Ask) (q : goodQuery (a .query) ≡ true) where
   -- exactly the shapes whose own box meets the query, as a filter over the file's shapes
   pub lists-exactly : (room : ℕ) → length (hitsFrom a 0 ss) ≤ room → searchOf a s room ≡ ok (hitsFrom a 0 ss)
   lists-exactly = search-complete a s ss e q

@@ -7,6 +7,7 @@ use mathlib.Core.Bool.{true}
 use mathlib.Core.List.{List}
 use lib.ListN.{length}
 use Rattle.answer.specs.Outcome.{ok}
+use Rattle.frame.specs.Layout.{theEdition}
 use Rattle.frame.specs.Frame.{totalsOf}
 use Rattle.shape.specs.Outline.{registered}
 use Rattle.answer.proofs.Orders.{on-value}
@@ -15,7 +16,7 @@ use Rattle.pageblock.specs.Page.{outlines}
 use Rattle.pageblock.specs.Written.{pageFor}
 use Rattle.pageblock.proofs.Passing.{rules-passed}
 use Rattle.pageblock.proofs.ReadBack.{page-contents}
-use Rattle.writer.specs.Run.{Call, Held, TypedCalls, fileIn, pagesFor, frameFor}
+use Rattle.writer.specs.Run.{Call, HalfWritten, TypedCalls, fileIn, pagesFor, frameFor}
 use Rattle.writer.specs.Written.{Sounds, sounds-none, sounds-more}
 use Rattle.writer.proofs.Running.{run-frame}
 use Rattle.file.specs.File.{pagesOf, shapesIn}
@@ -29,11 +30,11 @@ pub pages-read : (k : ℕ) {is : List Handed} → Sounds is → pagesOf k (pages
 unfolding pagesOf pagesFor handedShapes
 pages-read k sounds-none = refl
 pages-read k (sounds-more {i = i} {is = is} t p s) =
-    pages-first k (pageFor i) (pagesFor is) (registered (i .registers) (outlines i)) (page-contents i t (rules-passed i tt p))
+    pages-first k (pageFor theEdition i) (pagesFor is) (registered (i .registers) (outlines i)) (page-contents theEdition i t (rules-passed i tt p))
     ∙ on-value (pagesOf (suc k) (pagesFor is)) _ (handedShapes is) (pages-read (suc k) s)
 
 -- the closed file: checked, and its shapes
-module _ (h : Held) (cs : List Call) (l : 8 ≤ length (h .buffer)) (t : TypedCalls cs) where
+module _ (h : HalfWritten) (cs : List Call) (l : 8 ≤ length (h .buffer)) (t : TypedCalls cs) where
   pub closed-checked : ended h cs .state .closed ≡ true → checkOf (fileIn (ended h cs)) ≡ ok (totalsOf (frameFor (taken h cs)))
   unfolding frameFor
   closed-checked c =

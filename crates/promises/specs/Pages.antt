@@ -15,7 +15,7 @@ use Rattle.query.specs.Ask.{opens}
 use Rattle.shape.specs.Outline.{Shape}
 use Rattle.frame.specs.declared.cursor.Cursor.{Cursor}
 use Rattle.frame.specs.declared.cursor.PageAt.{PageAt}
-use Rattle.frame.specs.Step.{page, firstOf, stepOf}
+use Rattle.frame.specs.Next.{page, firstOf, nextOf}
 use Rattle.frame.specs.Frame.{Page, Frame, frameOf, shapesOf}
 use Rattle.frame.specs.Whole.{blockOf, pageBlocks}
 use Rattle.page.specs.Contents.{contentsOf}
@@ -34,7 +34,7 @@ NoPage o = Refuses (λ w. w .page ≡ 0) o
 -- each page block one more
 pub data Passed (s : List ℕ) : ℕ → Cursor → Type 0 where
   none : {c : Cursor} → firstOf s ≡ ok c → Passed s 0 c
-  more : {k : ℕ} {c : Cursor} {p : PageAt} → Passed s k c → stepOf s c ≡ ok (page p) → Passed s (suc k) (p .next)
+  more : {k : ℕ} {c : Cursor} {p : PageAt} → Passed s k c → nextOf s c ≡ ok (page p) → Passed s (suc k) (p .next)
 
 -- the same by the file's bytes alone: the first block, k page blocks, and then what stands from the place at on
 pub record BlocksBefore (s : List ℕ) (k at : ℕ) : Type 0 where
@@ -45,7 +45,7 @@ pub record BlocksBefore (s : List ℕ) (k at : ℕ) : Type 0 where
 -- the block that a frame refusal refuses: the first one, before any page block; or the one that stands behind as many page blocks as the page number says
 pub data InFrame (s : List ℕ) (w : Refusal) : Type 0 where
   first : firstOf s ≡ refused w → w .page ≡ 0 → InFrame s w
-  behind : (c : Cursor) → Passed s (w .page) c → stepOf s c ≡ refused w → InFrame s w
+  behind : (c : Cursor) → Passed s (w .page) c → nextOf s c ≡ refused w → InFrame s w
 
 -- ---- "for page contents in a file, that page"
 

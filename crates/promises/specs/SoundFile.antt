@@ -5,11 +5,11 @@ use mathlib.Core.Path.{_≡_}
 use mathlib.Core.Bool.{true}
 use mathlib.Core.List.{List, [], _∷_, _++_}
 use lib.ListN.{length}
-use Rattle.entry.specs.Entry.{Below}
+use Rattle.le.specs.Number.{Fits}
 use Rattle.column.specs.Column.{IsColumn}
 use Rattle.extent.specs.Rank.{allFinite}
 use Rattle.extent.specs.Boxes.{patterns}
-use Rattle.answer.specs.Every.{allOf}
+use Rattle.answer.specs.All.{allOf}
 use Rattle.types.specs.Parts.{partsHold}
 use Rattle.shape.specs.Outline.{Outline, Shape, outlinesOf, registered}
 use Rattle.shape.specs.Rules.{ringsClosed, onGridShape, turnsHold, boxHolds}
@@ -28,10 +28,10 @@ pub record SoundPage (h : Head) (b : List ℕ) (shapes : List Shape) : Type 0 wh
   pub ys : List ℕ
   pub parts : partsHold (typesOf h b) (countsOf h b) (lensOf h b) (h .v) ≡ true
   pub x-column : IsColumn 64 (xPart h b) xs
-  pub x-patterns : Below 64 xs
+  pub x-patterns : Fits 64 xs
   pub x-count : length xs ≡ h .v
   pub y-column : IsColumn 64 (yPart h b) ys
-  pub y-patterns : Below 64 ys
+  pub y-patterns : Fits 64 ys
   pub y-count : length ys ≡ h .v
   pub x-finite : allFinite xs ≡ true
   pub y-finite : allFinite ys ≡ true

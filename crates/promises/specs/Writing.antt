@@ -3,14 +3,14 @@ use mathlib.Core.List.{List, [], _∷_, _++_}
 use Rattle.shape.specs.Outline.{Shape, registered}
 use Rattle.pageblock.specs.Body.{Handed}
 use Rattle.pageblock.specs.Page.{outlines}
-use Rattle.writer.specs.Run.{Call, Held, afterOpen, afterCalls, takenOf}
+use Rattle.writer.specs.Run.{Call, HalfWritten, afterOpen, afterCalls, takenOf}
 
 -- what an open call and then these calls leave, whatever was lent first
-abbrev pub ended : Held → List Call → Held
+abbrev pub ended : HalfWritten → List Call → HalfWritten
 ended h cs = afterCalls (afterOpen h) cs
 
 -- the pages that they took
-abbrev pub taken : Held → List Call → List Handed
+abbrev pub taken : HalfWritten → List Call → List Handed
 taken h cs = takenOf (afterOpen h) cs
 
 -- register, type, part lengths and patterns of each shape, page by page, in order
