@@ -6,7 +6,6 @@ use mathlib.Core.Bool.{Bool, _&&_}
 use mathlib.Core.List.{List}
 use lib.ListN.{length}
 use lib.Dec.{leb}
-use denote.Ref.{now}
 use Rattle.answer.specs.Table as table
 use Rattle.answer.specs.Refusal.{because}
 use Rattle.answer.specs.Outcome.{Out, refused, ok, need, on, inPage, filled}
@@ -14,7 +13,7 @@ use Rattle.shape.specs.Outline.{Outline, Shape}
 use Rattle.page.specs.Contents.{contentsOf}
 use Rattle.fetch.specs.declared.fetch.Fetched.{Fetched}
 use Rattle.fetch.specs.declared.fetch.Fetched.the-variants as fetched
-use Rattle.answer.specs.Lent.{Lent}
+use Rattle.answer.specs.Lent.{Lent, came, left}
 use Rattle.place.specs.Nth.{shapeAt}
 use Rattle.place.specs.Seek.{Seat, seatOf}
 
@@ -75,7 +74,6 @@ pub record Fetches (o : Out Shape) (lens xs ys : List ℕ) (says : Fetched) (len
   pub ys-room : ys-left ≡ filled (listOf (λ x. x .ys) o) ys
 
 -- the contract, by the three lent rooms: o is the outcome with so much room
-abbrev pub FetchesInto : (Rooms → Out Shape) → Fetched → Lent → Lent → Lent → Type 0
-FetchesInto o says lens xs ys =
-    Fetches (o (roomsOf (now (lens .entry)) (now (xs .entry)) (now (ys .entry))))
-    (now (lens .entry)) (now (xs .entry)) (now (ys .entry)) says (now (lens .exit)) (now (xs .exit)) (now (ys .exit))
+abbrev pub FetchesIn : (Rooms → Out Shape) → Lent → Lent → Lent → Fetched → Type 0
+FetchesIn o lens xs ys says =
+    Fetches (o (roomsOf (came lens) (came xs) (came ys))) (came lens) (came xs) (came ys) says (left lens) (left xs) (left ys)

@@ -1,6 +1,6 @@
 // The fetching of one shape: frame, 17, contents of its page, 2.
 ghost use Rattle.place.specs.Onward.{Seeks};
-ghost use Rattle.fetch.specs.Fetch.{fetchOf, FetchesInto};
+ghost use Rattle.fetch.specs.Fetch.{fetchOf, FetchesIn};
 use crate::opened::opened;
 use answer::Refusal;
 use frame::walk::Checked;
@@ -34,7 +34,7 @@ fn seat(s: &[u8], place: usize) -> Sought
 
 // Fetches the shape at a place of a file, any bytes: its part lengths and the patterns of its vertices at the start of the lent rooms.
 pub fn fetch(s: &[u8], place: usize, lens: &mut [u16], xs: &mut [u64], ys: &mut [u64]) -> Fetched
-    ensures { λ r. ⌜ FetchesInto (fetchOf (now (s .entry)) place) r lens xs ys ⌝ }
+    ensures { λ r. ⌜ FetchesIn (fetchOf (now (s .entry)) place) lens xs ys r ⌝ }
 {
     match seat(s, place) {
         Sought::Refused(w) => Fetched::Refused(w),

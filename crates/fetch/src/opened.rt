@@ -5,7 +5,7 @@ ghost use Rattle.answer.specs.Outcome.{ok, on};
 ghost use Rattle.frame.specs.Ahead.{Within};
 ghost use Rattle.frame.specs.Next.{page, nextOf};
 ghost use Rattle.place.specs.Span.{shapeFrom};
-ghost use Rattle.fetch.specs.Fetch.{shapeOf, inRooms, FetchesInto};
+ghost use Rattle.fetch.specs.Fetch.{shapeOf, inRooms, FetchesIn};
 ghost use Rattle.fetch.specs.Ready.{Lies};
 ghost use Rattle.place.specs.Seek.{seatAt};
 use crate::fetch::Fetched;
@@ -36,7 +36,7 @@ fn put_shape(
     ys: &mut [u64],
 ) -> Fetched
     requires { ⌜ Lies p (now «page_lens») (now «page_xs») (now «page_ys») ⌝ }
-    ensures { λ f. ⌜ FetchesInto (λ k. inRooms k (shapeFrom r p (now («page_lens» .entry)) (now («page_xs» .entry)) (now («page_ys» .entry)))) f lens xs ys ⌝ }
+    ensures { λ f. ⌜ FetchesIn (λ k. inRooms k (shapeFrom r p (now («page_lens» .entry)) (now («page_xs» .entry)) (now («page_ys» .entry)))) lens xs ys f ⌝ }
 {
     let part = p.part;
     let part_end = p.part_end;
@@ -75,7 +75,7 @@ pub(crate) fn opened(
     requires { ⌜ Within (t .at) ⌝ }
     requires { ⌜ nextOf (now s) (t .at) ≡ ok (page (t .page)) ⌝ }
     requires { ⌜ t .index < t .page .head .g ⌝ }
-    ensures { λ r. ⌜ FetchesInto (λ k. on (shapeOf (seatAt (now (s .entry)) t)) (inRooms k)) r lens xs ys ⌝ }
+    ensures { λ r. ⌜ FetchesIn (λ k. on (shapeOf (seatAt (now (s .entry)) t)) (inRooms k)) lens xs ys r ⌝ }
 {
     let mut counts = [0u16; MOST_PAGE_SHAPES];
     let mut page_lens = [0u16; MOST_VERTICES];

@@ -68,7 +68,7 @@ module _ (edition : ℕ) (b : List ℕ) (g v p : ℕ) (l : Layout) (el : layoutO
           ∙ unmet (because boxForm) _ f)
 
       pub sized-good : (box : Box) → boxOk v (boundsAt b 6) ≡ true → floatsOf (boundsAt b 6) ≡ box
-          → sizedHead edition b g v p ≡ ok (record { g = g; v = v; p = p; bounds = box; cx = cx; cy = cy; layout = l })
+          → sizedHead edition b g v p ≡ ok (record { g = g; v = v; p = p; stored = box; cx = cx; cy = cy; layout = l })
       unfolding sizedHead
       sized-good box f eb =
           rw (el, ex, ey, eb)
@@ -89,7 +89,7 @@ pub record Headed (edition : ℕ) (b : List ℕ) (h : Head) : Type 0 where
   pub y-at : h .cy ≡ numberAt 4 b (h .layout .sizes + 4)
   pub exact : length b ≡ h .layout .columns + h .cx + h .cy
   pub form : boxOk (h .v) (boundsAt b 6) ≡ true
-  pub boxed : h .bounds ≡ floatsOf (boundsAt b 6)
+  pub boxed : h .stored ≡ floatsOf (boundsAt b 6)
 
 module _ (edition : ℕ) (b : List ℕ) (h : Head) where
   -- a head that is read says this
@@ -121,7 +121,7 @@ module _ (edition : ℕ) (b : List ℕ) (h : Head) where
       let l : 38 ≤ length b = omega (arith, k .exact, ap (λ (x : Layout). x .columns) (k .laid), columns-at edition (h .g) (h .p), sizes-from edition (h .g) (h .p)) in
       head-sized edition b (h .g) (h .v) (h .p) (k .shapes-at) (k .vertices-at) (k .parts-at) l (k .limits)
       ∙ sized-good edition b (h .g) (h .v) (h .p) (h .layout) (sym (k .laid)) (omega (arith, k .exact)) (h .cx) (h .cy)
-      (sym (k .x-at)) (sym (k .y-at)) (k .exact) (h .bounds) (k .form) (sym (k .boxed))
+      (sym (k .x-at)) (sym (k .y-at)) (k .exact) (h .stored) (k .form) (sym (k .boxed))
 
   module _ (k : Headed edition b h) where
     pub head-limits : Limits (h .g) (h .v) (h .p)
@@ -147,7 +147,7 @@ module _ (edition : ℕ) (b : List ℕ) (h : Head) where
         )
 
     -- the box's patterns are those that stand there
-    pub head-patterns : Bytes b → patterns (h .bounds) ≡ boundsAt b 6
+    pub head-patterns : Bytes b → patterns (h .stored) ≡ boundsAt b 6
     head-patterns y = ap patterns (k .boxed) ∙ floats-patterns (boundsAt b 6) words head-finite
       where
         words : Words (boundsAt b 6)
@@ -186,10 +186,10 @@ module _ (edition : ℕ) (b : List ℕ) (h : Head) (k : Headed edition b h) (g v
         )
 
     pub read-is : (cx cy : ℕ) (box : Box) → cx ≡ numberAt 4 b (l .sizes) → cy ≡ numberAt 4 b (l .sizes + 4) → box ≡ floatsOf (boundsAt b 6)
-        → h ≡ record { g = g; v = v; p = p; bounds = box; cx = cx; cy = cy; layout = l }
+        → h ≡ record { g = g; v = v; p = p; stored = box; cx = cx; cy = cy; layout = l }
     read-is cx cy box ex ey eb =
         let pv : h .v ≡ v = k .vertices-at ∙ sym ev in
         let px : h .cx ≡ cx = k .x-at ∙ ap (λ (x : Layout). numberAt 4 b (x .sizes)) read-layout ∙ sym ex in
         let py : h .cy ≡ cy = k .y-at ∙ ap (λ (x : Layout). numberAt 4 b (x .sizes + 4)) read-layout ∙ sym ey in
-        let pb : h .bounds ≡ box = k .boxed ∙ sym eb in
-        λ i. record { g = read-g i; v = pv i; p = read-p i; bounds = pb i; cx = px i; cy = py i; layout = read-layout i }
+        let pb : h .stored ≡ box = k .boxed ∙ sym eb in
+        λ i. record { g = read-g i; v = pv i; p = read-p i; stored = pb i; cx = px i; cy = py i; layout = read-layout i }

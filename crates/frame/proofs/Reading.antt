@@ -80,7 +80,7 @@ module _ (s : List ℕ) (c : Cursor) (p : PageAt) (e : nextOf s c ≡ ok (page p
   -- a glance by these numbers is that at the page
   pub glance-is : (n g v : ℕ) (b : Box) → n ≡ lenAt s (c .at) → g ≡ numberAt 2 s (c .at + headBytes + shapesPlace)
       → v ≡ numberAt 2 s (c .at + headBytes + verticesPlace) → b ≡ floatsOf (boundsAt s (c .at + headBytes + boundsPlace))
-      → record { v = v; bounds = b; next = record { edition = c .edition; at = c .at + 6 + n; pages = c .pages + 1; shapes = c .shapes + g } } ≡ glanceOf p
+      → record { v = v; stored = b; next = record { edition = c .edition; at = c .at + 6 + n; pages = c .pages + 1; shapes = c .shapes + g } } ≡ glanceOf p
   glance-is n g v b en eg ev eb =
       let l : n ≡ p .len = en ∙ page-length in
       let h : g ≡ p .head .g = eg ∙ page-shapes in
@@ -89,7 +89,7 @@ module _ (s : List ℕ) (c : Cursor) (p : PageAt) (e : nextOf s c ≡ ok (page p
       (λ i. record { edition = c .edition; at = a i; pages = c .pages + 1; shapes = c .shapes + h i }) ∙ sym (there .next) in
       λ i. record {
         v = (ev ∙ page-vertices) i;
-        bounds = (eb ∙ ap floatsOf (sym page-bounds) ∙ sym (headed .boxed)) i;
+        stored = (eb ∙ ap floatsOf (sym page-bounds) ∙ sym (headed .boxed)) i;
         next = next i;
       }
 

@@ -37,7 +37,7 @@ sizedHead edition b g v p =
     let cy = numberAt 4 b (l .sizes + secondSize) in
     need (eqb (length b) (l .columns + cx + cy)) (because lengths)
     (need (boxOk v (boundsAt b boundsPlace)) (because boxForm)
-    (ok (record { g = g; v = v; p = p; bounds = floatsOf (boundsAt b boundsPlace); cx = cx; cy = cy; layout = l }))))
+    (ok (record { g = g; v = v; p = p; stored = floatsOf (boundsAt b boundsPlace); cx = cx; cy = cy; layout = l }))))
 
 -- the head of a body
 unfoldable pub headOf : ℕ → List ℕ → Out Head

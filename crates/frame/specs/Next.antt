@@ -90,4 +90,4 @@ endsAt s c = eqb (kindAt s (c .at)) kinds.end
 
 -- what it has to know of a page that it may pass by
 abbrev pub glanceOf : PageAt → Glance
-glanceOf p = record { v = p .head .v; bounds = p .head .bounds; next = p .next }
+glanceOf p = record { v = p .head .v; stored = p .head .stored; next = p .next }

@@ -21,6 +21,6 @@ pub struct PageAt {
 // What a walk has to know of a page that it may pass by: its vertices, its box, and the cursor after it.
 pub struct Glance {
     pub v: usize,
-    pub bounds: Box,
+    pub stored: Box,
     pub next: Cursor,
 }

@@ -37,7 +37,7 @@ pub fn glance(s: &[u8], c: Cursor) -> Glance
     let body = at + HEAD;
     Glance {
         v: u16_at(s, body + VERTICES),
-        bounds: box_at(s, body + BOUNDS),
+        stored: box_at(s, body + BOUNDS),
         next: Cursor {
             edition: c.edition,
             at: body + u32_at(s, at),

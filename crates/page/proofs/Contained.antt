@@ -30,7 +30,7 @@ pub record Contained (h : Head) (b : List ℕ) (ss : List Shape) : Type 0 where
   pub ys : List ℕ
   pub vertices : verticesOf h b ≡ ok (record { xs = xs; ys = ys })
   pub parts : partsHold (typesOf h b) (countsOf h b) (lensOf h b) (h .v) ≡ true
-  pub box : boxHolds (patterns (h .bounds)) xs ys ≡ true
+  pub box : boxHolds (patterns (h .stored)) xs ys ≡ true
   pub shapes : registered (registersOf h b) (outlinesOf (typesOf h b) (countsOf h b) (lensOf h b) xs ys) ≡ ss
 
 pub contents-contained : (h : Head) (b : List ℕ) (ss : List Shape) → contentsOf h b ≡ ok ss → Contained h b ss
@@ -40,13 +40,13 @@ contents-contained h b ss e =
     let v = on-ok (verticesOf h b) _ ss (p .2) in
     let t : Vertices = v .0 in
     let o = on-ok (outlineRules (outlinesOf (typesOf h b) (countsOf h b) (lensOf h b) (t .xs) (t .ys)) (t .xs) (t .ys)) _ ss (v .2) in
-    let x = on-ok (boxRule (patterns (h .bounds)) (t .xs) (t .ys)) _ ss (o .2) in
+    let x = on-ok (boxRule (patterns (h .stored)) (t .xs) (t .ys)) _ ss (o .2) in
     record {
       xs = t .xs;
       ys = t .ys;
       vertices = v .1;
       parts = parts-passed (typesOf h b) (countsOf h b) (lensOf h b) (h .v) (p .0) (p .1);
-      box = rule-ok (boxHolds (patterns (h .bounds)) (t .xs) (t .ys)) table.box (x .0) (x .1);
+      box = rule-ok (boxHolds (patterns (h .stored)) (t .xs) (t .ys)) table.box (x .0) (x .1);
       shapes = ok-inj (x .2);
     }
 

@@ -66,7 +66,7 @@ head-stands e b h q =
       few = head-limits e b h d .vertices;
     })
 
-pub head-box : (e : ℕ) (b : List ℕ) (h : Head) → Bytes b → headOf e b ≡ ok h → FiniteBox (patterns (h .bounds))
+pub head-box : (e : ℕ) (b : List ℕ) (h : Head) → Bytes b → headOf e b ≡ ok h → FiniteBox (patterns (h .stored))
 head-box e b h k q = let d = head-is e b h q in rw (head-patterns e b h d k) (head-finite e b h d)
 
 -- ---- the ways through
@@ -117,7 +117,7 @@ module _ (h : Head) (b counts lens xs ys types : List ℕ) (v : ℕ) (ec : count
       os = outlinesOf types counts lens xs ys
 
       abbrev pub rules : Out (Unit {0})
-      rules = on (outlineRules os xs ys) (λ _. boxRule (patterns (h .bounds)) xs ys)
+      rules = on (outlineRules os xs ys) (λ _. boxRule (patterns (h .stored)) xs ys)
 
       contents : contentsOf h b ≡ on rules (λ _. ok (registered (registersOf h b) os))
       unfolding contentsOf
@@ -138,7 +138,7 @@ module _ (h : Head) (b counts lens xs ys types : List ℕ) (v : ℕ) (ec : count
             parts = rw (← et, ← ev) loads-holds;
             finite-x = f .0;
             finite-y = f .1;
-            box = rule-ok (boxHolds (patterns (h .bounds)) xs ys) table.box tt (o .2);
+            box = rule-ok (boxHolds (patterns (h .stored)) xs ys) table.box tt (o .2);
             shapes = contents ∙ on-value rules _ tt e ∙ rw (← et);
           }
 

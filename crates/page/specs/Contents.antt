@@ -59,5 +59,5 @@ contentsOf h b =
     on (verticesOf h b) (λ t.
     let os = outlinesOf (typesOf h b) (countsOf h b) (lensOf h b) (t .xs) (t .ys) in
     on (outlineRules os (t .xs) (t .ys)) (λ _.
-    on (boxRule (patterns (h .bounds)) (t .xs) (t .ys)) (λ _.
+    on (boxRule (patterns (h .stored)) (t .xs) (t .ys)) (λ _.
     ok (registered (registersOf h b) os)))))

@@ -43,7 +43,7 @@ pub record Loaded (h : Head) (b counts lens xs ys : List ℕ) : Type 0 where
   pub parts : partsHold (typesOf h b) counts lens (h .v) ≡ true
   pub finite-x : allFinite xs ≡ true
   pub finite-y : allFinite ys ≡ true
-  pub box : boxHolds (patterns (h .bounds)) xs ys ≡ true
+  pub box : boxHolds (patterns (h .stored)) xs ys ≡ true
   pub shapes : contentsOf h b ≡ ok (registered (registersOf h b) (outlinesOf (typesOf h b) counts lens xs ys))
 
 -- the contract: the verdict is that of the page's contents, and where it holds the scratch is as above

@@ -23,16 +23,16 @@ use types::parts::parts_rule;
 
 // 12 to 16 over a page's shapes: one walk over the vertices serves 12 and 16. Rule 11 has passed.
 fn vertex_rules(
-    bounds: Box,
+    stored: Box,
     types: &[u8],
     counts: &[u16],
     lens: &[u16],
     xs: &[u64],
     ys: &[u64],
 ) -> Verdict
-    requires { ⌜ FiniteBox (patterns bounds) ⌝ }
+    requires { ⌜ FiniteBox (patterns stored) ⌝ }
     requires { ⌜ Parted (now types) (now counts) (now lens) (now xs) (now ys) ⌝ }
-    ensures { λ r. ⌜ judged r ≡ vertexRulesIn (patterns bounds) (types .entry) (counts .entry) (lens .entry) (xs .entry) (ys .entry) ⌝ }
+    ensures { λ r. ⌜ judged r ≡ vertexRulesIn (patterns stored) (types .entry) (counts .entry) (lens .entry) (xs .entry) (ys .entry) ⌝ }
 {
     match box_if_finite(xs, ys) {
         Form::Bad => Verdict::Refused(Refusal::because(FINITE)),
@@ -40,7 +40,7 @@ fn vertex_rules(
             if let Verdict::Refused(w) = ring_rules(types, counts, lens, xs, ys) {
                 return Verdict::Refused(w);
             }
-            box_rule(bounds, own, xs.len())
+            box_rule(stored, own, xs.len())
         }
     }
 }
@@ -69,5 +69,5 @@ pub(crate) fn load(
     if let Verdict::Refused(w) = columns(b, h, xs, ys) {
         return Verdict::Refused(w);
     }
-    vertex_rules(h.bounds, &b[from..to], counts, lens, xs, ys)
+    vertex_rules(h.stored, &b[from..to], counts, lens, xs, ys)
 }

@@ -155,7 +155,7 @@ module _ (ed : ℕ) (i : Handed) (t : Typed i) (q : Passed i) where
   body-head = is-head ed (bodyOf ed i) (headFor ed i) headed
 
   -- whose box is that of the vertices
-  pub head-box : patterns (headFor ed i .bounds) ≡ boxOf (i .xs) (i .ys)
+  pub head-box : patterns (headFor ed i .stored) ≡ boxOf (i .xs) (i .ys)
   unfolding headFor
   head-box = floats-patterns (boxOf (i .xs) (i .ys)) words (box-finite (length (i .xs)) (boxOf (i .xs) (i .ys)) (box-form (i .xs) (i .ys) s))
 
@@ -217,7 +217,7 @@ module _ (ed : ℕ) (i : Handed) (t : Typed i) (q : Passed i) where
       ap₂ (λ (l : List ℕ) (n : ℕ). decodeOf 64 l n) y-back (head-vertices ed i ∙ sym (s .same)) ∙ decodes-written 64 (i .ys) few (t .ys) in
       on-value _ _ (i .xs) dx ∙ on-value _ _ (i .ys) dy
 
-  box-passes : boxRule (patterns (headFor ed i .bounds)) (i .xs) (i .ys) ≡ ok tt
+  box-passes : boxRule (patterns (headFor ed i .stored)) (i .xs) (i .ys) ≡ ok tt
   unfolding boxRule boxHolds
   box-passes = rule-holds _ table.box (rw head-box (either-true (not (ltb 0 (length (i .xs)))) _ (same-box-refl (boxOf (i .xs) (i .ys)))))
     where

@@ -235,7 +235,7 @@ unfolding metOf pageHits
 met-gives a [] k n = ok-gives _ _
 met-gives a (p ∷ ps) k n =
     on-gives _ _ _
-    (cond-gives _ (opens a (p .head .v) (patterns (p .head .bounds))) _ _
+    (cond-gives _ (opens a (p .head .v) (patterns (p .head .stored))) _ _
     (on-gives _ _ _ (page-gives numbers.contents k _ (contents-give (p .head) (p .body))) (λ here. ok-gives _ _)) (ok-gives _ [])) (λ here.
     on-gives _ _ _ (met-gives a ps (suc k) (n + p .head .g)) (λ rest. ok-gives _ _))
 

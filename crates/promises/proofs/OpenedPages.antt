@@ -95,7 +95,7 @@ module _ (a : Ask) (all : List Page) where
       → Refuses (InContents (metPages a all) all) (pageHits a k n p)
   unfolding pageHits
   page-refused k n p ps d b =
-      test-gives _ (opens a (p .head .v) (patterns (p .head .bounds))) _ _
+      test-gives _ (opens a (p .head .v) (patterns (p .head .stored))) _ _
       (λ o. on-gives _ _ _ (here-refused (metPages a all) all k p ps d o b) (λ here. ok-gives _ _))
       (λ o. ok-gives _ _)
 

@@ -67,7 +67,7 @@ module _ (h : Head) (b : List ℕ) (shapes : List Shape) (few : h .v ≤ 2048) w
       on-value (partsRule (typesOf h b) (countsOf h b) (lensOf h b) (h .v)) _ tt (rule-holds _ table.parts (p .parts))
       ∙ on-value (verticesOf h b) _ (record { xs = p .xs; ys = p .ys }) v
       ∙ on-value (outlineRules os (p .xs) (p .ys)) _ tt r
-      ∙ on-value (boxRule (patterns (h .bounds)) (p .xs) (p .ys)) _ tt (rule-holds _ table.box (p .boxed))
+      ∙ on-value (boxRule (patterns (h .stored)) (p .xs) (p .ys)) _ tt (rule-holds _ table.box (p .boxed))
       ∙ ap ok (sym (p .shapes-are))
 
   -- and what is read is sound
@@ -89,7 +89,7 @@ module _ (h : Head) (b : List ℕ) (shapes : List Shape) (few : h .v ≤ 2048) w
       let finite = on-ok (finiteRule xs ys) _ (rules .0) (rules .1) in
       let ring = on-ok (ringRule os) _ (rules .0) (finite .2) in
       let grid = on-ok (gridRule os) _ (rules .0) (ring .2) in
-      let box = on-ok (boxRule (patterns (h .bounds)) xs ys) _ shapes (rules .2) in
+      let box = on-ok (boxRule (patterns (h .stored)) xs ys) _ shapes (rules .2) in
       let f = finite-passed xs ys (finite .0) (finite .1) in
       record {
         xs = xs;
@@ -106,7 +106,7 @@ module _ (h : Head) (b : List ℕ) (shapes : List Shape) (few : h .v ≤ 2048) w
         closed = ring-passed os (ring .0) (ring .1);
         on-grid = grid-passed os (grid .0) (grid .1);
         turned = turn-passed os (rules .0) (grid .2);
-        boxed = rule-ok (boxHolds (patterns (h .bounds)) xs ys) table.box (box .0) (box .1);
+        boxed = rule-ok (boxHolds (patterns (h .stored)) xs ys) table.box (box .0) (box .1);
         shapes-are = sym (ok-inj (box .2));
       }
 

@@ -80,7 +80,7 @@ everyPage ps k p = Unit {0}
 
 -- the search and the count open each page whose box meets the query
 abbrev pub metPages : Ask → List Page → ℕ → Page → Type 0
-metPages a ps k p = opens a (p .head .v) (patterns (p .head .bounds)) ≡ true
+metPages a ps k p = opens a (p .head .v) (patterns (p .head .stored)) ≡ true
 
 -- fetch opens the page in which its place lies: the shapes before it end at the place or before, and with its own they end behind it
 pub record PlacePage (place : ℕ) (ps : List Page) (k : ℕ) (p : Page) : Type 0 where

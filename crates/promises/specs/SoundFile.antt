@@ -38,7 +38,7 @@ pub record SoundPage (h : Head) (b : List ℕ) (shapes : List Shape) : Type 0 wh
   pub closed : allOf ringsClosed (outlinesIn h b xs ys) ≡ true
   pub on-grid : allOf onGridShape (outlinesIn h b xs ys) ≡ true
   pub turned : allOf turnsHold (outlinesIn h b xs ys) ≡ true
-  pub boxed : boxHolds (patterns (h .bounds)) xs ys ≡ true
+  pub boxed : boxHolds (patterns (h .stored)) xs ys ≡ true
   pub shapes-are : shapes ≡ registered (registersOf h b) (outlinesIn h b xs ys)
 
 -- each page's contents are sound, and the shapes are those of all pages, in order

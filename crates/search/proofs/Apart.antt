@@ -29,7 +29,7 @@ use Rattle.answer.proofs.Orders.{on-value}
 use Rattle.search.specs.Search.{pageHits, metOf, hitsOf, searchOf, countOf}
 use Rattle.search.specs.Alike.{AlikePage, Alike, none, more}
 use Rattle.search.proofs.Sequence.{met-cons, met-order, hits-order}
-use Rattle.search.proofs.Opened.{page-closed}
+use Rattle.search.proofs.Opened.{page-unopened}
 use Rattle.search.proofs.Services.{search-by-hits}
 
 -- ---- a head, by the bytes to the end of its box
@@ -57,8 +57,8 @@ module _ (edition : ℕ) (b c : List ℕ) (h k : Head) (eh : headOf edition b �
   pub head-vertices : h .v ≡ k .v
   head-vertices = head-is edition b h eh .vertices-at ∙ number-same 2 2 b c (omega arith) e ∙ sym (head-is edition c k ek .vertices-at)
 
-  pub head-bounds : h .bounds ≡ k .bounds
-  head-bounds = head-is edition b h eh .boxed ∙ ap floatsOf (bounds-same b c e) ∙ sym (head-is edition c k ek .boxed)
+  pub head-stored : h .stored ≡ k .stored
+  head-stored = head-is edition b h eh .boxed ∙ ap floatsOf (bounds-same b c e) ∙ sym (head-is edition c k ek .boxed)
 
 -- ---- a page
 
@@ -66,14 +66,14 @@ module _ (edition : ℕ) (b c : List ℕ) (h k : Head) (eh : headOf edition b �
 pub record SamePage (a : Ask) (p q : Page) : Type 0 where
   pub shapes : p .head .g ≡ q .head .g
   pub vertices : p .head .v ≡ q .head .v
-  pub bounds : p .head .bounds ≡ q .head .bounds
-  pub same : opens a (p .head .v) (patterns (p .head .bounds)) ≡ true → p ≡ q
+  pub stored : p .head .stored ≡ q .head .stored
+  pub same : opens a (p .head .v) (patterns (p .head .stored)) ≡ true → p ≡ q
 
 pub same-page : (edition : ℕ) (a : Ask) (p q : Page) → headOf edition (p .body) ≡ ok (p .head) → headOf edition (q .body) ≡ ok (q .head) → AlikePage a p q → SamePage a p q
 same-page edition a p q ep eq′ w = record {
   shapes = head-shapes edition (p .body) (q .body) (p .head) (q .head) ep eq′ (w .start);
   vertices = head-vertices edition (p .body) (q .body) (p .head) (q .head) ep eq′ (w .start);
-  bounds = head-bounds edition (p .body) (q .body) (p .head) (q .head) ep eq′ (w .start);
+  stored = head-stored edition (p .body) (q .body) (p .head) (q .head) ep eq′ (w .start);
   same = λ o. one (w .body o);
 }
   where
@@ -81,13 +81,13 @@ same-page edition a p q ep eq′ w = record {
     one e = let h : p .head ≡ q .head = ok-inj (sym ep ∙ ap (headOf edition) e ∙ eq′) in λ i. record { head = h i; body = e i }
 
 pub page-same : (a : Ask) (k n : ℕ) (p q : Page) → SamePage a p q → pageHits a k n p ≡ pageHits a k n q
-page-same a k n p q w = go (opens a (p .head .v) (patterns (p .head .bounds))) refl
+page-same a k n p q w = go (opens a (p .head .v) (patterns (p .head .stored))) refl
   where
-    go : (t : Bool) → opens a (p .head .v) (patterns (p .head .bounds)) ≡ t → pageHits a k n p ≡ pageHits a k n q
+    go : (t : Bool) → opens a (p .head .v) (patterns (p .head .stored)) ≡ t → pageHits a k n p ≡ pageHits a k n q
     go true e = ap (pageHits a k n) (w .same e)
     go false e =
-        let o : opens a (q .head .v) (patterns (q .head .bounds)) ≡ false = sym (λ i. opens a (w .vertices i) (patterns (w .bounds i))) ∙ e in
-        page-closed a k n p e ∙ sym (page-closed a k n q o)
+        let o : opens a (q .head .v) (patterns (q .head .stored)) ≡ false = sym (λ i. opens a (w .vertices i) (patterns (w .stored i))) ∙ e in
+        page-unopened a k n p e ∙ sym (page-unopened a k n q o)
 
 -- ---- pages, as they come in files whose frames are sound
 

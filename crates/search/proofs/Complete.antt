@@ -23,7 +23,7 @@ use Rattle.answer.proofs.Orders.{on-value}
 use Rattle.page.proofs.Contained.{contents-long}
 use Rattle.file.specs.File.{pagesOf, shapesIn}
 use Rattle.search.specs.Search.{placesOf, hitsFrom, pageHits, metOf, hitsOf, searchOf, countOf}
-use Rattle.search.proofs.Opened.{page-closed, page-open}
+use Rattle.search.proofs.Opened.{page-unopened, page-open}
 use Rattle.search.proofs.Sequence.{met-none, met-order, hits-order, met-page}
 use Rattle.search.proofs.Unopened.{closed-none}
 use Rattle.search.proofs.Services.{search-hits}
@@ -57,11 +57,11 @@ none-of a n = refl
 
 -- its hits are those of its shapes, opened or not
 pub page-complete : (a : Ask) (k n : ℕ) (p : Page) (ss : List Shape) → inPage k (contentsOf (p .head) (p .body)) ≡ ok ss → pageHits a k n p ≡ ok (hitsFrom a n ss)
-page-complete a k n p ss e = go (opens a (p .head .v) (patterns (p .head .bounds))) refl
+page-complete a k n p ss e = go (opens a (p .head .v) (patterns (p .head .stored))) refl
   where
-    go : (t : Bool) → opens a (p .head .v) (patterns (p .head .bounds)) ≡ t → pageHits a k n p ≡ ok (hitsFrom a n ss)
+    go : (t : Bool) → opens a (p .head .v) (patterns (p .head .stored)) ≡ t → pageHits a k n p ≡ ok (hitsFrom a n ss)
     go true q = page-open a k n p q ∙ on-value (inPage k (contentsOf (p .head) (p .body))) _ ss e
-    go false q = page-closed a k n p q ∙ ap ok (sym (closed-none a n (p .head) (p .body) ss (in-page-ok k (contentsOf (p .head) (p .body)) ss e) q))
+    go false q = page-unopened a k n p q ∙ ap ok (sym (closed-none a n (p .head) (p .body) ss (in-page-ok k (contentsOf (p .head) (p .body)) ss e) q))
 
 -- ---- the pages
 

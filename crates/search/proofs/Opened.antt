@@ -73,24 +73,24 @@ unfolding hitsFrom
 shapes-hits h b xs ys q a n = ap (placesOf a n) (shapes-outlines h b xs ys q)
 
 module _ (a : Ask) (k n : ℕ) (p : Page) where
-  pub page-closed : opens a (p .head .v) (patterns (p .head .bounds)) ≡ false → pageHits a k n p ≡ ok []
+  pub page-unopened : opens a (p .head .v) (patterns (p .head .stored)) ≡ false → pageHits a k n p ≡ ok []
   unfolding pageHits
-  page-closed e = rw e
+  page-unopened e = rw e
 
-  pub page-open : opens a (p .head .v) (patterns (p .head .bounds)) ≡ true
+  pub page-open : opens a (p .head .v) (patterns (p .head .stored)) ≡ true
       → pageHits a k n p ≡ openedHits a k n p
   unfolding pageHits
   page-open e = rw e
 
   -- they ascend, and none is past the page's last shape
   pub page-ascends : (l : List ℕ) → pageHits a k n p ≡ ok l → Ascending (n + p .head .g) n l
-  page-ascends l e = go (opens a (p .head .v) (patterns (p .head .bounds))) refl
+  page-ascends l e = go (opens a (p .head .v) (patterns (p .head .stored))) refl
     where
       h : Head
       h = p .head
 
-      go : (t : Bool) → opens a (p .head .v) (patterns (p .head .bounds)) ≡ t → Ascending (n + p .head .g) n l
-      go false q = subst (Ascending (n + p .head .g) n) (ok-inj (sym (page-closed q) ∙ e)) none
+      go : (t : Bool) → opens a (p .head .v) (patterns (p .head .stored)) ≡ t → Ascending (n + p .head .g) n l
+      go false q = subst (Ascending (n + p .head .g) n) (ok-inj (sym (page-unopened q) ∙ e)) none
       go true q =
           let o = on-ok (inPage k (contentsOf h (p .body))) _ l (sym (page-open q) ∙ e) in
           let c = contents-contained h (p .body) (o .0) (in-page-ok k (contentsOf h (p .body)) (o .0) (o .1)) in
@@ -117,7 +117,7 @@ module _ (h : Head) (b counts lens xs ys : List ℕ) (y : Loaded h b counts lens
       (subst (λ (m : ℕ). Adds d e n (n + m) (bitsOf (placesOf a n (outlinesOf types counts lens xs ys)))) (loaded-ready h b counts lens xs ys y types t .0) f)
 
 -- so what is said of an opened page's contents is said of its hits
-pub opened-meets : {d e : List ℕ} (a : Ask) (k n to : ℕ) (p : Page) (r : Counted) → opens a (p .head .v) (patterns (p .head .bounds)) ≡ true
+pub opened-meets : {d e : List ℕ} (a : Ask) (k n to : ℕ) (p : Page) (r : Counted) → opens a (p .head .v) (patterns (p .head .stored)) ≡ true
     → Meets (openedHits a k n p) n to r d e → Meets (pageHits a k n p) n to r d e
 opened-meets {d = d} {e = e} a k n to p r t m = subst (λ (o : Out (List ℕ)). Meets o n to r d e) (sym (page-open a k n p t)) m
 

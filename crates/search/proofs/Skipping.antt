@@ -22,7 +22,7 @@ use Rattle.frame.proofs.Ahead.{ahead-page, ahead-fewer}
 use Rattle.search.specs.Search.{metOf}
 use Rattle.search.specs.Skipped.{Skipping, Skips}
 use Rattle.search.proofs.Sequence.{met-page, met-alone}
-use Rattle.search.proofs.Opened.{page-closed}
+use Rattle.search.proofs.Opened.{page-unopened}
 
 -- no page yet
 pub skipping-start : (a : Ask) (s : List ℕ) (c : Cursor) (ps : List Page) → Ahead s c ps → Skipping a s c c
@@ -35,17 +35,17 @@ module _ (a : Ask) (s : List ℕ) (c d : Cursor) (k : Skipping a s c d) where
 
   module _ (p : PageAt) (here : nextOf s d ≡ ok (page p)) where
     -- a page that is opened
-    pub skips-page : opens a (p .head .v) (patterns (p .head .bounds)) ≡ true → Skips a s c d
+    pub skips-page : opens a (p .head .v) (patterns (p .head .stored)) ≡ true → Skips a s c d
     skips-page t = record {
       skipping = k;
-      opened = λ q h. subst (λ (x : PageAt). opens a (x .head .v) (patterns (x .head .bounds)) ≡ true) (page-inj (ok-inj (sym here ∙ h))) t;
+      opened = λ q h. subst (λ (x : PageAt). opens a (x .head .v) (patterns (x .head .stored)) ≡ true) (page-inj (ok-inj (sym here ∙ h))) t;
     }
 
     pub skipping-fewer : 1025 - p .next .pages < 1025 - d .pages
     skipping-fewer = ahead-fewer s d (k .left) (k .from-d) p here
 
     -- one that is not
-    pub skipping-more : opens a (p .head .v) (patterns (p .head .bounds)) ≡ false → Skipping a s c (p .next)
+    pub skipping-more : opens a (p .head .v) (patterns (p .head .stored)) ≡ false → Skipping a s c (p .next)
     skipping-more t =
         let r = ahead-page s d (k .left) (k .from-d) p here in
         let paged = page-is s d p here in
@@ -58,7 +58,7 @@ module _ (a : Ask) (s : List ℕ) (c d : Cursor) (k : Skipping a s c d) where
           from-d = r .2;
           same = k .same
               ∙ ap (metOf a (d .pages) (d .shapes)) (r .1)
-              ∙ met-page a (d .pages) (d .shapes) (pageOf s p) (r .0) [] (page-closed a (d .pages) (d .shapes) (pageOf s p) t)
+              ∙ met-page a (d .pages) (d .shapes) (pageOf s p) (r .0) [] (page-unopened a (d .pages) (d .shapes) (pageOf s p) t)
               ∙ sym (met-alone (metOf a (suc (d .pages)) (d .shapes + p .head .g) (r .0)))
               ∙ (λ i. metOf a (up i) (sym shapes i) (r .0));
           onward = omega (arith, up, k .onward);

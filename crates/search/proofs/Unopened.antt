@@ -50,11 +50,11 @@ parts-missed a xs ys v p l e b c k n = go (length xs) refl
     go (suc j) z = unopened-no-hit a xs ys k n v p l e (decided (ltb 0 (length xs)) (sameBox p (boxOf xs ys)) (lt-ltb 0 (length xs) (omega arith)) b) c
 
 -- so none of its shapes is
-pub closed-none : (a : Ask) (n : ℕ) (h : Head) (b : List ℕ) (ss : List Shape) → contentsOf h b ≡ ok ss → opens a (h .v) (patterns (h .bounds)) ≡ false
+pub closed-none : (a : Ask) (n : ℕ) (h : Head) (b : List ℕ) (ss : List Shape) → contentsOf h b ≡ ok ss → opens a (h .v) (patterns (h .stored)) ≡ false
     → hitsFrom a n ss ≡ []
 closed-none a n h b ss e c =
     let k = contents-contained h b ss e in
     let v = vertices-long h b (k .xs) (k .ys) (k .vertices) in
     ap (hitsFrom a n) (sym (k .shapes))
     ∙ shapes-hits h b (k .xs) (k .ys) (k .parts) a n
-    ∙ none-hit a (k .xs) (k .ys) (parts-missed a (k .xs) (k .ys) (h .v) (patterns (h .bounds)) (v .1 ∙ sym (v .0)) (sym (v .0)) (k .box) c) (typesOf h b) (countsOf h b) (lensOf h b) 0 n
+    ∙ none-hit a (k .xs) (k .ys) (parts-missed a (k .xs) (k .ys) (h .v) (patterns (h .stored)) (v .1 ∙ sym (v .0)) (sym (v .0)) (k .box) c) (typesOf h b) (countsOf h b) (lensOf h b) 0 n

@@ -12,7 +12,7 @@ use Rattle.frame.specs.Frame.{Page}
 -- the same to the end of the box, the first 38 bytes, and the same body where the query meets that box
 pub record AlikePage (a : Ask) (p q : Page) : Type 0 where
   pub start : take 38 (p .body) ≡ take 38 (q .body)
-  pub body : opens a (p .head .v) (patterns (p .head .bounds)) ≡ true → p .body ≡ q .body
+  pub body : opens a (p .head .v) (patterns (p .head .stored)) ≡ true → p .body ≡ q .body
 
 -- page for page
 pub data Alike (a : Ask) : List Page → List Page → Type 0 where

@@ -33,7 +33,7 @@ openedHits a k n p = on (inPage k (contentsOf (p .head) (p .body))) (λ here. ok
 
 -- the hits of page k, which begins at place n: if its stored box meets the query it is opened; else it has none, whatever stands behind its box
 unfoldable pub pageHits : Ask → ℕ → ℕ → Page → Out (List ℕ)
-pageHits a k n p = cond (opens a (p .head .v) (patterns (p .head .bounds))) (openedHits a k n p) (ok [])
+pageHits a k n p = cond (opens a (p .head .v) (patterns (p .head .stored))) (openedHits a k n p) (ok [])
 
 -- the hits of pages in order, the first of which is page k and begins at place n
 unfoldable pub metOf : Ask → ℕ → ℕ → List Page → Out (List ℕ)

@@ -27,4 +27,4 @@ pub record Skipping (a : Ask) (s : List ℕ) (c d : Cursor) : Type 0 where
 -- and if a page stands at d, it is opened
 pub record Skips (a : Ask) (s : List ℕ) (c d : Cursor) : Type 0 where
   pub skipping : Skipping a s c d
-  pub opened : (p : PageAt) → nextOf s d ≡ ok (page p) → opens a (p .head .v) (patterns (p .head .bounds)) ≡ true
+  pub opened : (p : PageAt) → nextOf s d ≡ ok (page p) → opens a (p .head .v) (patterns (p .head .stored)) ≡ true

@@ -70,7 +70,7 @@ fn next_met(a: Ask, s: &[u8], from: Cursor) -> Cursor
     let mut c = from;
     while !at_end(s, c) {
         let l = glance(s, c);
-        if opens(a, l.v, l.bounds) {
+        if opens(a, l.v, l.stored) {
             return c;
         }
         c = l.next;

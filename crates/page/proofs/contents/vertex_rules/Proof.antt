@@ -33,7 +33,7 @@ returns c =
     let form = c .before .before .before .before .before .before .before .box-if-finite .ensures in
     let own = c .before .before .before .before .before .own .given in
     let w = c .before .w .given in
-    whole-rings (patterns (a .bounds)) os (a .xs .now) (a .ys .now) (finite-holds _ _ _ form (own .0 .0) (own .1)) (w .0 .0)
+    whole-rings (patterns (a .stored)) os (a .xs .now) (a .ys .now) (finite-holds _ _ _ form (own .0 .0) (own .1)) (w .0 .0)
     (rw (w .1) at (c .before .before .before .ring-rules .ensures))
 
 enum-told-2 : tie.Need-enum-told-2
@@ -49,7 +49,7 @@ returns-2 : tie.Need-returns-2
 returns-2 c =
     let a = c .before .before .before .before .before .before .before .before .before .args in
     let os = outlinesOf (a .types .now) (a .counts .now) (a .lens .now) (a .xs .now) (a .ys .now) in
-    whole-finite (patterns (a .bounds)) os (a .xs .now) (a .ys .now) _
+    whole-finite (patterns (a .stored)) os (a .xs .now) (a .ys .now) _
     (finite-fails _ _ _ (c .before .before .before .box-if-finite .ensures) _ (c .because .ensures) (c .before .enum-told .given .1))
 
 returns-3 : tie.Need-returns-3
@@ -58,9 +58,9 @@ returns-3 c =
     let os = outlinesOf (a .types .now) (a .counts .now) (a .lens .now) (a .xs .now) (a .ys .now) in
     let form = c .before .before .before .before .before .before .before .box-if-finite .ensures in
     let own = c .before .before .before .before .before .own .given in
-    whole-box (patterns (a .bounds)) os (a .xs .now) (a .ys .now) (finite-holds _ _ _ form (own .0 .0) (own .1)) (c .box-rule .result)
+    whole-box (patterns (a .stored)) os (a .xs .now) (a .ys .now) (finite-holds _ _ _ form (own .0 .0) (own .1)) (c .box-rule .result)
     (rw (c .before .enum-told2 .given .1) at (c .before .before .before .ring-rules .ensures))
-    (c .box-rule .ensures ∙ box-rule-is (patterns (a .bounds)) (a .xs .now) (a .ys .now) (own .0 .0) (own-box _ _ _ form (own .0 .0) (own .1)))
+    (c .box-rule .ensures ∙ box-rule-is (patterns (a .stored)) (a .xs .now) (a .ys .now) (own .0 .0) (own-box _ _ _ form (own .0 .0) (own .1)))
 
 pub vertex-rules-spec : {M : Type 1} → statement M
 vertex-rules-spec =

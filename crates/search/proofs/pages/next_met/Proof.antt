@@ -20,9 +20,9 @@ use Rattle.search.proofs.pages.next_met.Statement.{statement}
 use Rattle.search.proofs.pages.next_met.Tie as tie
 
 -- what the test of a glance says of the page
-met-at : (a : Ask) (l : Glance) (p : PageAt) → l ≡ glanceOf p → {t : Bool} → opens a (l .v) (patterns (l .bounds)) ≡ t
-    → opens a (p .head .v) (patterns (p .head .bounds)) ≡ t
-met-at a l p e h = sym (ap (λ (x : Glance). opens a (x .v) (patterns (x .bounds))) e) ∙ h
+met-at : (a : Ask) (l : Glance) (p : PageAt) → l ≡ glanceOf p → {t : Bool} → opens a (l .v) (patterns (l .stored)) ≡ t
+    → opens a (p .head .v) (patterns (p .head .stored)) ≡ t
+met-at a l p e h = sym (ap (λ (x : Glance). opens a (x .v) (patterns (x .stored))) e) ∙ h
 
 abbrev Inv-loop : tie.InvT-loop
 Inv-loop a s c₀ c = Skipping a s c₀ c
@@ -48,7 +48,7 @@ opens-requires c κs =
     let s = args .s .now in
     let k = page-is s (c .before .before .before .loop .c) (g .0) (g .1) in (
       pre .0,
-      subst (λ (x : Glance). FiniteBox (patterns (x .bounds))) (sym (g .2))
+      subst (λ (x : Glance). FiniteBox (patterns (x .stored))) (sym (g .2))
           (head-box (c .before .before .before .loop .c .edition) _ (g .0 .head) (bytes-part s (g .0 .body) (g .0 .len) (λ i. shared-slice-known .given i .fits)) (k .headed)),
     )
 

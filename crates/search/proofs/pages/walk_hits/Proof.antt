@@ -23,7 +23,7 @@ use Rattle.search.proofs.pages.walk_hits.Tie as tie
 abbrev Inv-loop : tie.InvT-loop
 Inv-loop a s counts₀ lens₀ xs₀ ys₀ flags₀ c₀ found₀ counts lens xs ys flags c found =
     Meeting a s flags₀ c found flags
-    × ((p : PageAt) → nextOf s c ≡ ok (page p) → opens a (p .head .v) (patterns (p .head .bounds)) ≡ true)
+    × ((p : PageAt) → nextOf s c ≡ ok (page p) → opens a (p .head .v) (patterns (p .head .stored)) ≡ true)
     × (length counts ≡ length counts₀) × (length lens ≡ length lens₀) × (length xs ≡ length xs₀) × (length ys ≡ length ys₀)
 
 abbrev μ-loop : tie.MeasureT-loop
