@@ -1,6 +1,6 @@
 -- Laws of outcomes, one for each way through `need` and `on`; callers cite these and not the definitions' text. Assumes nothing.
 use Prim.Native.Nat.{ℕ}
-use mathlib.Core.Path.{_≡_, refl, ap}
+use mathlib.Core.Path.{_≡_, refl, sym, ap, _∙_}
 use mathlib.Core.Bool.{Bool, true, false}
 use mathlib.Core.List.{List, _++_}
 use native.Mathlib.Omega.{arith}
@@ -68,3 +68,17 @@ module _ {o : Out (List ℕ)} {d : List ℕ} where
   pub fills-ok : (l : List ℕ) (n : ℕ) (left : List ℕ) → o ≡ ok l → n ≡ length l → left ≡ l ++ drop n d → Fills o d (Start n) left
   unfolding filled answered
   fills-ok l n left e h r = record { answer = rw (e, h); room = rw e (rw (← h) r) }
+
+-- and back: what it says tells its outcome, and what it left
+pub filled-refused : (o : Out (List ℕ)) (d : List ℕ) (w : Refusal) (left : List ℕ) → Fills o d (Refused w) left → (o ≡ refused w) × (left ≡ d)
+unfolding filled answered
+filled-refused (refused x) d w left f = (let e = f .answer in let z : x ≡ w = cc in ap refused z, f .room)
+filled-refused (ok l) d w left f = absurd (let e = f .answer in let z : _≡_ {A = ℕ} 0 1 = cc in omega arith)
+
+pub filled-start : (o : Out (List ℕ)) (d : List ℕ) (n : ℕ) (left : List ℕ) → Fills o d (Start n) left → (l : List ℕ) × (o ≡ ok l) × (n ≡ length l) × (left ≡ l ++ drop n d)
+unfolding filled answered
+filled-start (refused x) d n left f = absurd (let e = f .answer in let z : _≡_ {A = ℕ} 0 1 = cc in omega arith)
+filled-start (ok l) d n left f =
+    let e = f .answer in
+    let z : n ≡ length l = cc in
+    (l, refl, z, f .room ∙ ap (λ (k : ℕ). l ++ drop k d) (sym z))

@@ -14,8 +14,8 @@ use Rattle.answer.specs.declared.Filled.the-variants.{Start, Refused}
 use Rattle.answer.specs.declared.Verdict.the-variants as verdict
 use Rattle.answer.specs.Table as table
 use Rattle.answer.specs.Refusal.{because}
-use Rattle.answer.specs.Outcome.{Out, refused, ok, need, on, filled, answered, Fills}
-use Rattle.answer.proofs.Outcomes.{ok-inj, need-ok, on-ok}
+use Rattle.answer.specs.Outcome.{Out, refused, ok, need, on, Fills}
+use Rattle.answer.proofs.Outcomes.{ok-inj, need-ok, on-ok, filled-refused, filled-start}
 use Rattle.answer.proofs.Orders.{on-refused, on-value}
 use Rattle.frame.specs.Layout.{theEdition}
 use Rattle.pageblock.specs.Body.{Handed}
@@ -27,21 +27,6 @@ use Rattle.writer.specs.declared.Writer.{Writer}
 use Rattle.writer.specs.State.{stateWith, putAt, pageStepOf, startOf, Steps}
 use Rattle.writer.proofs.Stepping.{steps-refused, steps-ok}
 use Rattle.writer.proofs.Ways.{added, page-rest}
-
--- ---- what a call that fills a room has said
-
-pub filled-refused : (o : Out (List ℕ)) (d : List ℕ) (w : Refusal) (left : List ℕ) → Fills o d (Refused w) left → (o ≡ refused w) × (left ≡ d)
-unfolding filled answered
-filled-refused (refused x) d w left f = (let e = f .answer in let z : x ≡ w = cc in ap refused z, f .room)
-filled-refused (ok l) d w left f = absurd (let e = f .answer in let z : _≡_ {A = ℕ} 0 1 = cc in omega arith)
-
-pub filled-start : (o : Out (List ℕ)) (d : List ℕ) (n : ℕ) (left : List ℕ) → Fills o d (Start n) left → (l : List ℕ) × (o ≡ ok l) × (n ≡ length l) × (left ≡ l ++ drop n d)
-unfolding filled answered
-filled-start (refused x) d n left f = absurd (let e = f .answer in let z : _≡_ {A = ℕ} 0 1 = cc in omega arith)
-filled-start (ok l) d n left f =
-    let e = f .answer in
-    let z : n ≡ length l = cc in
-    (l, refl, z, f .room ∙ ap (λ (k : ℕ). l ++ drop k d) (sym z))
 
 -- ---- the buffer's rest
 
