@@ -19,7 +19,7 @@ put-one p d t at r e f =
     record { next = e ∙ ap (λ (l : List ℕ). at + length l) g; room = f ∙ ap (sets d at) g }
 
 -- the text of pieces behind pieces
-text-append : (ps qs : List Piece) → textOf (ps ++ qs) ≡ textOf ps ++ textOf qs
+pub text-append : (ps qs : List Piece) → textOf (ps ++ qs) ≡ textOf ps ++ textOf qs
 unfolding textOf
 text-append [] qs = refl
 text-append (p ∷ ps) qs = ap (λ (l : List ℕ). pieceBytes p ++ l) (text-append ps qs) ∙ sym (append-assoc (pieceBytes p) (textOf ps) (textOf qs))
@@ -40,6 +40,13 @@ unfolding textOf most pieceBytes
 text-most [] = omega arith
 text-most (words l ∷ ps) = omega (arith, length-append l (textOf ps), text-most ps)
 text-most (number n ∷ ps) = omega (arith, length-append (decimal n) (textOf ps), decimal-length n, text-most ps)
+
+-- and pieces behind pieces at most what both can
+pub most-append : (ps qs : List Piece) → most (ps ++ qs) ≡ most ps + most qs
+unfolding most
+most-append [] qs = omega arith
+most-append (words l ∷ ps) qs = omega (arith, most-append ps qs)
+most-append (number n ∷ ps) qs = omega (arith, most-append ps qs)
 
 -- so what is put for them ends so far behind its place at most
 pub ends : {d t : List ℕ} {ps : List Piece} {at r : ℕ} → Puts d at ps r t → r ≤ at + most ps

@@ -1,0 +1,55 @@
+-- Shown here: a text that is written stretch by stretch, each being what comes next, is written whole. Nothing is assumed.
+use Prim.Native.Nat.{ℕ, _+_, _≤_}
+use mathlib.Core.Path.{_≡_, refl, sym, ap, ap₂, _∙_}
+use mathlib.Core.List.{List, [], _++_, append-assoc, append-nil}
+use native.Mathlib.Omega.{arith}
+use lib.ListN.{length, take, drop, length-append}
+use lib.Seq.{sets, sets-eq, take-append-seam, drop-append-seam}
+use Rattle.text.specs.Pieces.{Piece, textOf, Puts}
+use Rattle.text.specs.Stretch.{Stretch}
+use Rattle.text.proofs.Pieces.{keeps, text-append}
+
+-- behind a, and before b
+pub stretch-between : (text a l b : List ℕ) (k : ℕ) → text ≡ a ++ (l ++ b) → k ≡ length a → Stretch text k l
+stretch-between text a l b k e h = record {
+  within = omega (arith, h, ap length e, length-append a (l ++ b), length-append l b);
+  same = ap₂ (λ (n : ℕ) (t : List ℕ). take (length l) (drop n t)) h e ∙ ap (take (length l)) (drop-append-seam a (l ++ b)) ∙ take-append-seam l b;
+}
+
+-- k bytes of a text are written, and what comes next is the text of these pieces
+pub record Written (text : List ℕ) (k : ℕ) (ps : List Piece) : Type 0 where
+  pub before : List ℕ
+  pub all : text ≡ before ++ textOf ps
+  pub long : k ≡ length before
+
+-- none yet
+pub written-none : (text : List ℕ) (ps : List Piece) → text ≡ textOf ps → Written text 0 ps
+written-none text ps e = record { before = []; all = e; long = refl }
+
+module _ (text : List ℕ) (k : ℕ) (ps qs : List Piece) (w : Written text k (ps ++ qs)) (l : List ℕ) (e : l ≡ textOf ps) where
+  apart : text ≡ w .before ++ (l ++ textOf qs)
+  apart = w .all ∙ ap (λ (t : List ℕ). w .before ++ t) (text-append ps qs ∙ ap (λ (t : List ℕ). t ++ textOf qs) (sym e))
+
+  -- the text of the first of them is the stretch that comes next
+  pub written-next : Stretch text k l
+  written-next = stretch-between text (w .before) l (textOf qs) k apart (w .long)
+
+  -- and once it is written, the others are left
+  pub written-more : Written text (k + length l) qs
+  written-more = record {
+    before = w .before ++ l;
+    all = apart ∙ sym (append-assoc (w .before) l (textOf qs));
+    long = omega (arith, w .long, length-append (w .before) l);
+  }
+
+-- nothing is left: all are written
+pub written-all : (text : List ℕ) (k : ℕ) → Written text k [] → k ≡ length text
+unfolding textOf
+written-all text k w = omega (arith, w .long, ap length (w .all ∙ append-nil (w .before)))
+
+-- what was put at the start of a room, with room for it, stands there
+pub front : {d t : List ℕ} {ps : List Piece} {r : ℕ} → Puts d 0 ps r t → r ≤ length t → take r t ≡ textOf ps
+front {d} {t} {ps} {r} p h =
+    let n : r ≡ length (textOf ps) = omega (arith, p .next) in
+    let m : 0 + length (textOf ps) ≤ length d = omega (arith, n, keeps p) in
+    ap₂ take n (p .room ∙ sets-eq (textOf ps) d 0 m) ∙ take-append-seam (textOf ps) (drop (0 + length (textOf ps)) d)
