@@ -1,1 +1,3 @@
-pub mod Starts
+pub mod Lines
+pub mod Listings
+pub mod Rowing

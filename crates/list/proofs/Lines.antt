@@ -1,0 +1,102 @@
+-- Shown here: what is printed of an input is the refused line, or its rows and the last line, stretch by stretch; and it is short. Nothing is assumed.
+use Prim.Native.Nat.{ℕ, _+_, _-_, _*_, _≤_, _<_}
+use mathlib.Core.Path.{_≡_, refl, sym, ap, _∙_, subst}
+use mathlib.Core.List.{List, [], _∷_, _++_, append-assoc, append-nil}
+use native.Mathlib.Omega.{arith}
+use lib.ListN.{length, take, drop, length-append}
+use Rattle.answer.specs.declared.Refusal.{Refusal}
+use Rattle.answer.specs.Outcome.{Out, refused, ok}
+use Rattle.text.specs.Pieces.{Piece, codes, textOf, most}
+use Rattle.text.specs.Lines.{row, hitsLine, refusedLine}
+use Rattle.text.specs.Stretch.{Stretch}
+use Rattle.text.proofs.Pieces.{text-most, most-append}
+use Rattle.text.proofs.Stretches.{Written, written-none, written-next, written-more, written-all}
+use Rattle.list.specs.Listing.{Listing, listing, listingOf}
+use Rattle.list.specs.Printed.{rowLines, linesOf, printedOf}
+use Rattle.list.proofs.Listings.{listed-few}
+use Rattle.list.proofs.Rowing.{rows-between, rows-over}
+
+-- ---- a refused input
+
+module _ (input : List ℕ) (w : Refusal) (e : listingOf input ≡ refused w) where
+  refused-text : printedOf input ≡ textOf (refusedLine (w .number) (w .page) ++ [])
+  unfolding printedOf linesOf
+  refused-text = ap (λ (o : Out Listing). textOf (linesOf o)) e ∙ ap textOf (sym (append-nil (refusedLine (w .number) (w .page))))
+
+  refused-none : Written (printedOf input) 0 (refusedLine (w .number) (w .page) ++ [])
+  refused-none = written-none _ _ refused-text
+
+  -- the line is a stretch, and the whole
+  pub refused-next : (l : List ℕ) → l ≡ textOf (refusedLine (w .number) (w .page)) → Stretch (printedOf input) 0 l
+  refused-next l h = written-next _ _ _ _ refused-none l h
+
+  pub refused-all : (l : List ℕ) (k : ℕ) → l ≡ textOf (refusedLine (w .number) (w .page)) → k ≡ 0 + length l → k ≡ length (printedOf input)
+  refused-all l k h q = q ∙ written-all _ _ (written-more _ _ _ _ refused-none l h)
+
+-- ---- a listing
+
+-- what is left of it from row i on
+abbrev pub leftFrom : List ℕ → List ℕ → List ℕ → ℕ → ℕ → List Piece
+leftFrom P R T shapes i = rowLines (drop i P) (drop i R) (drop i T) ++ hitsLine (length P) shapes
+
+-- the rows from i to e
+abbrev pub rowsTo : List ℕ → List ℕ → List ℕ → ℕ → ℕ → List Piece
+rowsTo P R T i e = rowLines (take (e - i) (drop i P)) (take (e - i) (drop i R)) (take (e - i) (drop i T))
+
+module _ (input P R T : List ℕ) (shapes : ℕ) where
+  pub listed-none : listingOf input ≡ ok (listing P R T shapes) → Written (printedOf input) 0 (leftFrom P R T shapes 0)
+  unfolding printedOf linesOf
+  listed-none e = written-none _ _ (ap (λ (o : Out Listing). textOf (linesOf o)) e)
+
+  module _ (k i : ℕ) (w : Written (printedOf input) k (leftFrom P R T shapes i)) where
+    -- the rows up to e are the stretch that comes next
+    module _ (e : ℕ) (h : i ≤ e) (l : List ℕ) (q : l ≡ textOf (rowsTo P R T i e)) where
+      parted : Written (printedOf input) k (rowsTo P R T i e ++ leftFrom P R T shapes e)
+      parted = subst (Written (printedOf input) k) (ap (λ (x : List Piece). x ++ hitsLine (length P) shapes) (rows-between P R T i e h) ∙ append-assoc (rowsTo P R T i e) _ _) w
+
+      pub listed-next : Stretch (printedOf input) k l
+      listed-next = written-next _ _ _ _ parted l q
+
+      pub listed-more : Written (printedOf input) (k + length l) (leftFrom P R T shapes e)
+      listed-more = written-more _ _ _ _ parted l q
+
+    -- the last line comes behind all of them
+    module _ (h : length P ≤ i) (l : List ℕ) (q : l ≡ textOf (hitsLine (length P) shapes)) where
+      last : Written (printedOf input) k (hitsLine (length P) shapes ++ [])
+      last = subst (Written (printedOf input) k) (ap (λ (x : List Piece). x ++ hitsLine (length P) shapes) (rows-over P R T i h) ∙ sym (append-nil (hitsLine (length P) shapes))) w
+
+      pub listed-last : Stretch (printedOf input) k l
+      listed-last = written-next _ _ _ _ last l q
+
+      pub listed-all : (m : ℕ) → m ≡ k + length l → m ≡ length (printedOf input)
+      listed-all m z = z ∙ written-all _ _ (written-more _ _ _ _ last l q)
+
+-- ---- it is short
+
+-- a row takes at most 63 bytes
+rows-most : (P R T : List ℕ) → most (rowLines P R T) ≤ 63 * length P
+unfolding rowLines most row codes
+rows-most [] R T = omega arith
+rows-most (p ∷ P) [] T = omega arith
+rows-most (p ∷ P) (r ∷ R) [] = omega arith
+rows-most (p ∷ P) (r ∷ R) (t ∷ T) = omega (arith, rows-most P R T)
+
+refused-most : (w : Refusal) → most (linesOf (refused w)) ≤ 55
+unfolding linesOf most refusedLine codes
+refused-most w = omega arith
+
+listed-most : (l : Listing) → most (linesOf (ok l)) ≤ 63 * length (l .places) + 50
+unfolding linesOf
+listed-most l = omega (arith, most-append (rowLines (l .places) (l .registers) (l .types)) (hitsLine (length (l .places)) (l .shapes)), rows-most (l .places) (l .registers) (l .types), last-most)
+  where
+    last-most : most (hitsLine (length (l .places)) (l .shapes)) ≤ 50
+    last-most = unfold most hitsLine codes in omega arith
+
+-- so that all of it takes fewer than 2^18
+pub printed-short : (input : List ℕ) → length (printedOf input) < 262144
+unfolding printedOf
+printed-short input = go (listingOf input) refl
+  where
+    go : (o : Out Listing) → listingOf input ≡ o → length (textOf (linesOf (listingOf input))) < 262144
+    go (refused w) e = rw e (omega (arith, text-most (linesOf (refused w)), refused-most w))
+    go (ok l) e = rw e (omega (arith, text-most (linesOf (ok l)), listed-most l, listed-few input l e))
