@@ -18,20 +18,20 @@ use Rattle.list.proofs.Rowing.{rows-between, rows-over}
 
 -- ---- a refused input
 
-module _ (input : List ℕ) (w : Refusal) (e : listingOf input ≡ refused w) where
+module _ (input : List ℕ) (w : Refusal) (e : listingOf input ≡ refused w) (k : ℕ) (z : k ≡ 0) where
   refused-text : printedOf input ≡ textOf (refusedLine (w .number) (w .page) ++ [])
   unfolding printedOf linesOf
   refused-text = ap (λ (o : Out Listing). textOf (linesOf o)) e ∙ ap textOf (sym (append-nil (refusedLine (w .number) (w .page))))
 
-  refused-none : Written (printedOf input) 0 (refusedLine (w .number) (w .page) ++ [])
-  refused-none = written-none _ _ refused-text
+  refused-none : Written (printedOf input) k (refusedLine (w .number) (w .page) ++ [])
+  refused-none = written-none _ k _ z refused-text
 
   -- the line is a stretch, and the whole
-  pub refused-next : (l : List ℕ) → l ≡ textOf (refusedLine (w .number) (w .page)) → Stretch (printedOf input) 0 l
+  pub refused-next : (l : List ℕ) → l ≡ textOf (refusedLine (w .number) (w .page)) → Stretch (printedOf input) k l
   refused-next l h = written-next _ _ _ _ refused-none l h
 
-  pub refused-all : (l : List ℕ) (k : ℕ) → l ≡ textOf (refusedLine (w .number) (w .page)) → k ≡ 0 + length l → k ≡ length (printedOf input)
-  refused-all l k h q = q ∙ written-all _ _ (written-more _ _ _ _ refused-none l h)
+  pub refused-all : (l : List ℕ) (m : ℕ) → l ≡ textOf (refusedLine (w .number) (w .page)) → m ≡ k + length l → m ≡ length (printedOf input)
+  refused-all l m h q = q ∙ written-all _ _ (written-more _ _ _ _ refused-none l h)
 
 -- ---- a listing
 
@@ -44,9 +44,9 @@ abbrev pub rowsTo : List ℕ → List ℕ → List ℕ → ℕ → ℕ → List 
 rowsTo P R T i e = rowLines (take (e - i) (drop i P)) (take (e - i) (drop i R)) (take (e - i) (drop i T))
 
 module _ (input P R T : List ℕ) (shapes : ℕ) where
-  pub listed-none : listingOf input ≡ ok (listing P R T shapes) → Written (printedOf input) 0 (leftFrom P R T shapes 0)
+  pub listed-none : (k : ℕ) → k ≡ 0 → listingOf input ≡ ok (listing P R T shapes) → Written (printedOf input) k (leftFrom P R T shapes 0)
   unfolding printedOf linesOf
-  listed-none e = written-none _ _ (ap (λ (o : Out Listing). textOf (linesOf o)) e)
+  listed-none k z e = written-none _ k _ z (ap (λ (o : Out Listing). textOf (linesOf o)) e)
 
   module _ (k i : ℕ) (w : Written (printedOf input) k (leftFrom P R T shapes i)) where
     -- the rows up to e are the stretch that comes next

@@ -3,6 +3,7 @@
 mod listing;
 mod print;
 mod rows;
+mod say;
 
 use input::Input;
 use input::read_input;

@@ -1,6 +1,6 @@
 -- Shown here: a text that is written stretch by stretch, each being what comes next, is written whole. Nothing is assumed.
 use Prim.Native.Nat.{ℕ, _+_, _≤_}
-use mathlib.Core.Path.{_≡_, refl, sym, ap, ap₂, _∙_}
+use mathlib.Core.Path.{_≡_, sym, ap, ap₂, _∙_}
 use mathlib.Core.List.{List, [], _++_, append-assoc, append-nil}
 use native.Mathlib.Omega.{arith}
 use lib.ListN.{length, take, drop, length-append}
@@ -23,8 +23,8 @@ pub record Written (text : List ℕ) (k : ℕ) (ps : List Piece) : Type 0 where
   pub long : k ≡ length before
 
 -- none yet
-pub written-none : (text : List ℕ) (ps : List Piece) → text ≡ textOf ps → Written text 0 ps
-written-none text ps e = record { before = []; all = e; long = refl }
+pub written-none : (text : List ℕ) (k : ℕ) (ps : List Piece) → k ≡ 0 → text ≡ textOf ps → Written text k ps
+written-none text k ps z e = record { before = []; all = e; long = z }
 
 module _ (text : List ℕ) (k : ℕ) (ps qs : List Piece) (w : Written text k (ps ++ qs)) (l : List ℕ) (e : l ≡ textOf ps) where
   apart : text ≡ w .before ++ (l ++ textOf qs)

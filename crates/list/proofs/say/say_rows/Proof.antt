@@ -1,4 +1,4 @@
--- `list::print::print_rows` hands on stretch after stretch of the rows and then the last line, each what comes next. Nothing is assumed.
+-- `list::say::say_rows` hands on stretch after stretch of the rows and then the last line, each what comes next. Nothing is assumed.
 use Prim.Native.Nat.{ℕ, _-_, _≤_}
 use mathlib.Core.Path.{_≡_, refl, sym, _∙_, subst}
 use native.Mathlib.Omega.{arith}
@@ -8,8 +8,8 @@ use Rattle.text.proofs.Stretches.{Written, front}
 use Rattle.list.specs.Printed.{printedOf}
 use Rattle.list.proofs.Lines.{leftFrom, listed-none, listed-next, listed-more, listed-last, listed-all}
 use borrow.Author.Needs.{needs}
-use Rattle.list.proofs.print.print_rows.Statement.{statement}
-use Rattle.list.proofs.print.print_rows.Tie as tie
+use Rattle.list.proofs.say.say_rows.Statement.{statement}
+use Rattle.list.proofs.say.say_rows.Tie as tie
 
 abbrev Inv-loop : tie.InvT-loop
 Inv-loop input places registers types shapes n out₀ p₀ i₀ out p i = (i ≤ length places) × (length out ≡ 8192) × Written (printedOf input) (p .k) (leftFrom places registers types shapes i)
@@ -21,7 +21,7 @@ loop-holds : tie.Need-loop-holds Inv-loop μ-loop
 loop-holds c =
     let st = c .before .before .before .before in
     let a = st .args in
-    (omega arith, refl, listed-none (a .input .now) (a .places .now) (a .registers .now) (a .types .now) (a .shapes) (st .pre .0))
+    (omega arith, refl, listed-none (a .input .now) (a .places .now) (a .registers .now) (a .types .now) (a .shapes) _ (st .pre .0) (st .pre .1 .0))
 
 stretch-end-requires : tie.Need-stretch-end-requires Inv-loop μ-loop
 stretch-end-requires c κs = search needs
@@ -69,8 +69,8 @@ put-rows-requires c κs =
     let l = c .before .before .before .before .before .before .loop in
     let e = c .before .before .before .before .stretch-end in
     let places = mid-len (l .i) (e .result) (a .places .now) (omega (arith, e .ensures)) in
-    let registers = mid-len (l .i) (e .result) (a .registers .now) (omega (arith, e .ensures, st .pre .1 .0)) in
-    let types = mid-len (l .i) (e .result) (a .types .now) (omega (arith, e .ensures, st .pre .1 .1)) in
+    let registers = mid-len (l .i) (e .result) (a .registers .now) (omega (arith, e .ensures, st .pre .1 .1 .0)) in
+    let types = mid-len (l .i) (e .result) (a .types .now) (omega (arith, e .ensures, st .pre .1 .1 .1)) in
     (registers ∙ sym places, (types ∙ sym places, omega (arith, places, e .ensures, l .inv .1)))
 
 array-share-prefix-out : tie.Need-array-share-prefix-out Inv-loop μ-loop
@@ -125,8 +125,8 @@ returns c =
     let put = c .before .before .before .put-hits .ensures in
     listed-all (a .input .now) (a .places .now) (a .registers .now) (a .types .now) (a .shapes) _ (l .i) (l .inv .2) (c .before .before .before .before .before .loop-test .left) _ (front (put .0) (put .1 .1 .0)) _ (c .write2 .ensures)
 
-pub print-rows-spec : {M : Type 1} → statement M
-print-rows-spec =
+pub say-rows-spec : {M : Type 1} → statement M
+say-rows-spec =
     tie.close
     (tie.spec
     Inv-loop
