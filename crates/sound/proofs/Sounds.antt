@@ -1,21 +1,27 @@
--- Shown here: what the code says of the bytes that were read is what their definition says, and the line that is put for it is theirs. Nothing is assumed.
-use Prim.Native.Nat.{ℕ, _≤_, _<_}
-use mathlib.Core.Path.{_≡_, sym, ap, _∙_, subst}
-use mathlib.Core.List.{List}
+-- Shown here: what the code says of the bytes that were read is what their definition says, the line that is put for it is theirs, and it is all that is printed.
+-- Nothing is assumed.
+use Prim.Native.Nat.{ℕ, _+_, _≤_, _<_}
+use mathlib.Core.Path.{_≡_, refl, sym, ap, _∙_, subst}
+use mathlib.Core.List.{List, [], _++_, append-nil}
+use native.Mathlib.Omega.{arith}
 use borrow.Author.Tests.{le-leb, lt-leb}
 use lib.ListN.{length}
 use Rattle.answer.specs.declared.Refusal.{Refusal}
 use Rattle.answer.specs.Table.{many}
 use Rattle.answer.specs.Refusal.{because}
+use Rattle.answer.specs.Outcome.{Out, refused, ok}
 use Rattle.answer.proofs.Outcomes.{met, unmet}
 use Rattle.frame.specs.declared.walk.Totals.{Totals}
 use Rattle.frame.specs.declared.walk.Checked.{Checked}
 use Rattle.frame.specs.declared.walk.Checked.the-variants.{Sound, Refused}
 use Rattle.frame.specs.Said.{saidChecked}
 use Rattle.file.specs.Check.{checkOf}
-use Rattle.text.specs.Pieces.{Piece, Puts}
+use Rattle.text.specs.Pieces.{Piece, codes, textOf, most, Puts}
 use Rattle.text.specs.Lines.{refusedLine, soundLine}
-use Rattle.sound.specs.Sound.{judgedOf, lineOf, soundOf}
+use Rattle.text.specs.Stretch.{Stretch}
+use Rattle.text.proofs.Pieces.{text-most}
+use Rattle.text.proofs.Stretches.{Written, written-none, written-next, written-more, written-all}
+use Rattle.sound.specs.Sound.{judgedOf, lineOf, soundOf, printedOf}
 
 -- over 40,960 bytes, and no more
 pub judged-many : (s : List ℕ) → 40960 < length s → saidChecked (Refused (because many)) ≡ judgedOf s
@@ -35,3 +41,26 @@ module _ (s d : List ℕ) (says : Checked) (r : ℕ) (left : List ℕ) (e : said
   pub line-refused : (w : Refusal) → says ≡ Refused w → Puts d 0 (refusedLine (w .number) (w .page)) r left → Puts d 0 (soundOf s) r left
   unfolding saidChecked lineOf soundOf
   line-refused w f = subst (λ (l : List Piece). Puts d 0 l r left) (ap lineOf (sym (ap saidChecked f) ∙ e))
+
+-- ---- what is printed
+
+-- it is short
+pub printed-short : (s : List ℕ) → length (printedOf s) ≤ 61
+unfolding printedOf soundOf
+printed-short s = omega (arith, text-most (lineOf (judgedOf s)), go (judgedOf s))
+  where
+    go : (o : Out Totals) → most (lineOf o) ≤ 61
+    go (refused w) = unfold lineOf most refusedLine codes in omega arith
+    go (ok t) = unfold lineOf most soundLine codes in omega arith
+
+-- the line is a stretch, and the whole
+module _ (s : List ℕ) (l : List ℕ) (e : l ≡ textOf (soundOf s)) where
+  line-none : Written (printedOf s) 0 (soundOf s ++ [])
+  unfolding printedOf
+  line-none = written-none _ 0 _ refl (ap textOf (sym (append-nil (soundOf s))))
+
+  pub line-next : Stretch (printedOf s) 0 l
+  line-next = written-next _ _ _ _ line-none l e
+
+  pub line-all : (m : ℕ) → m ≡ 0 + length l → m ≡ length (printedOf s)
+  line-all m q = q ∙ written-all _ _ (written-more _ _ _ _ line-none l e)

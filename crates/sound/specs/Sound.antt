@@ -10,7 +10,7 @@ use Rattle.answer.specs.Refusal.{because}
 use Rattle.answer.specs.Outcome.{Out, refused, ok, need}
 use Rattle.frame.specs.declared.walk.Totals.{Totals}
 use Rattle.file.specs.Check.{checkOf}
-use Rattle.text.specs.Pieces.{Piece}
+use Rattle.text.specs.Pieces.{Piece, textOf}
 use Rattle.text.specs.Lines.{refusedLine, soundLine}
 
 -- 3 for over 40,960 bytes, else the full check
@@ -25,3 +25,7 @@ lineOf (ok t) = soundLine (t .pages) (t .shapes)
 -- the line for the bytes
 unfoldable pub soundOf : List ℕ → List Piece
 soundOf s = lineOf (judgedOf s)
+
+-- what is printed of an input: the whole output, as a function of the whole input
+unfoldable pub printedOf : List ℕ → List ℕ
+printedOf s = textOf (soundOf s)

@@ -1,9 +1,9 @@
--- `sound::judged` refuses over 40,960 bytes by 3, and checks the others. Nothing is assumed.
+-- `sound::line::judged` refuses over 40,960 bytes by 3, and checks the others. Nothing is assumed.
 use Rattle.sound.proofs.Sounds.{judged-many, judged-check}
 use native.Mathlib.Omega.{arith}
 use borrow.Author.Needs.{needs}
-use Rattle.sound.proofs.judged.Statement.{statement}
-use Rattle.sound.proofs.judged.Tie as tie
+use Rattle.sound.proofs.line.judged.Statement.{statement}
+use Rattle.sound.proofs.line.judged.Tie as tie
 
 because-requires : tie.Need-because-requires
 because-requires c κs = search needs

@@ -1,8 +1,8 @@
--- `sound::answer` puts the line for what was judged. Nothing is assumed.
+-- `sound::line::put_line` puts the line for what was judged. Nothing is assumed.
 use Rattle.sound.proofs.Sounds.{line-sound, line-refused}
 use borrow.Author.Needs.{needs}
-use Rattle.sound.proofs.answer.Statement.{statement}
-use Rattle.sound.proofs.answer.Tie as tie
+use Rattle.sound.proofs.line.put_line.Statement.{statement}
+use Rattle.sound.proofs.line.put_line.Tie as tie
 
 judged-requires : tie.Need-judged-requires
 judged-requires c κs = search needs
@@ -31,8 +31,8 @@ returns-2 c =
     let w = c .before .before .before .w .given in
     (line-refused (a .input .now) (a .out .now) _ _ _ (c .before .before .before .before .before .judged .ensures) (w .0 .0) (w .1) (c .put-refused .ensures .0), c .put-refused .ensures .1 .1)
 
-pub answer-spec : {M : Type 1} → statement M
-answer-spec =
+pub put-line-spec : {M : Type 1} → statement M
+put-line-spec =
     tie.close
     (tie.spec
     judged-requires

@@ -1,0 +1,25 @@
+-- `sound::print::write` counts what it hands on, which is short. Nothing is assumed.
+use native.Mathlib.Omega.{arith}
+use Rattle.sound.proofs.Sounds.{printed-short}
+use borrow.Author.Needs.{needs}
+use Rattle.sound.proofs.print.write.Statement.{statement}
+use Rattle.sound.proofs.print.write.Tie as tie
+
+write-all-requires : tie.Need-write-all-requires
+write-all-requires c κs = search needs
+
+slice-aggregate-fail : tie.Need-slice-aggregate-fail
+slice-aggregate-fail c = search needs
+
+fail-requires : tie.Need-fail-requires
+fail-requires c κs = search needs
+
+add-t11 : tie.Need-add-t11
+add-t11 c = let st = c .before .before .before .before .before in omega (arith, st .pre .within, printed-short (st .args .input .now))
+
+returns : tie.Need-returns
+returns c = search needs
+
+pub write-spec : {M : Type 1} → statement M
+write-spec =
+    tie.close (tie.spec write-all-requires slice-aggregate-fail fail-requires add-t11 returns)
