@@ -22,6 +22,10 @@ use Rattle.list.specs.declared.listing.Listed.the-variants.{Rows, Refuse
 abbrev pub mostHits : ℕ
 mostHits = 4096
 
+-- bytes that are read of an input: one more than the longest query block and the largest file take
+abbrev pub mostRead : ℕ
+mostRead = 40999
+
 -- a listing: the places of the hits, the register and the type at each, and how many shapes the file has in all
 pub record Listing : Type 0 where
   pub places : List ℕ

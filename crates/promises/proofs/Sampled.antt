@@ -30,7 +30,10 @@ use Rattle.file.specs.Check.{checkOf}
 use Rattle.query.specs.Ask.{goodQuery, reachOf, stored, inWindow, touches, hit, opens}
 use Rattle.query.specs.Block.{instead, bodyLen, lenOf, blockLen, spotAsked, windowAsked, asked, askOf}
 use Rattle.search.specs.Search.{placesOf, hitsFrom, pageHits, metOf, metIn, hitsOf, searchOf}
-use Rattle.promises.specs.Sample.{sample, Found}
+use Rattle.place.specs.Seek.{seekIn}
+use Rattle.place.specs.Row.{rowOf}
+use Rattle.place.specs.Rows.{rowsAt, rowsIn}
+use Rattle.promises.specs.Sample.{sample, Found, Listable}
 
 -- two pages, four shapes
 pub sample-sound : checkOf sample ≡ ok (record { pages = 2; shapes = 4; first = firstCursor 1 })
@@ -41,3 +44,8 @@ sample-sound = refl
 pub sample-found : Found
 unfolding need on inPage rule number numberAt numbersEach presentAt blockAt unzigzag sizeAt valueAt after values saidBy endOf endRules someOf decodeOf rank finite atMost below sameValue fourFinite inOrder goodForm sameBox lesser greater leastOf greatestOf boxOf allOf typeRow total fits lengthsFit rowAgrees shapeAgrees partsAgree partsHold partsRule ofBits toBits ofFields onGrid wholeOf turnOf clockwise zeroTurn outlinesOf partsOf registered finiteRule endsMeet closedRing ringsClosed ringRule onGridShape gridRule ringTurn turnNotZero firstClockwise ringsTurned turnsHold turnRule boxHolds boxRule each layoutOf countsOk boundsAt allZero boxOk sizedHead page.headOf asFirst firstOf asPage asEnd byKind nextOf walk frameOf frame.shapesOf registersOf typesOf countsOf lensOf xPart yPart verticesOf outlineRules contentsOf runOf bytesOf blockHead meets instead bodyLen lenOf blockLen spotAsked windowAsked asked askOf goodQuery reachOf stored inWindow touches hit opens placesOf hitsFrom pageHits metOf metIn hitsOf searchOf
 sample-found = (refl, refl, refl, refl, refl)
+
+-- and what the listing program goes by
+pub sample-listable : Listable
+unfolding need on inPage rule number numberAt numbersEach presentAt blockAt unzigzag sizeAt valueAt after values saidBy endOf endRules someOf decodeOf rank finite atMost below sameValue fourFinite inOrder goodForm sameBox lesser greater leastOf greatestOf boxOf allOf typeRow total fits lengthsFit rowAgrees shapeAgrees partsAgree partsHold partsRule ofBits toBits ofFields onGrid wholeOf turnOf clockwise zeroTurn outlinesOf partsOf registered finiteRule endsMeet closedRing ringsClosed ringRule onGridShape gridRule ringTurn turnNotZero firstClockwise ringsTurned turnsHold turnRule boxHolds boxRule each layoutOf countsOk boundsAt allZero boxOk sizedHead page.headOf asFirst firstOf asPage asEnd byKind nextOf walk frameOf frame.shapesOf registersOf typesOf countsOf lensOf xPart yPart verticesOf outlineRules contentsOf runOf bytesOf blockHead meets instead bodyLen lenOf blockLen spotAsked windowAsked asked askOf goodQuery reachOf stored inWindow touches hit opens placesOf hitsFrom pageHits metOf metIn hitsOf searchOf seekIn rowOf rowsAt rowsIn
+sample-listable = (refl, refl, refl)

@@ -4,8 +4,14 @@
 use Prim.Native.Nat.{ℕ}
 use mathlib.Core.Path.{_≡_}
 use mathlib.Core.List.{List, [], _∷_}
-use Rattle.answer.specs.Outcome.{Out, ok, on}
+use lib.ListN.{take}
+use Rattle.answer.specs.Table.{lengths}
+use Rattle.answer.specs.Refusal.{because, onPage}
+use Rattle.answer.specs.Outcome.{Out, refused, ok, on}
 use Rattle.query.specs.Block.{askOf, blockWith}
+use Rattle.frame.specs.Frame.{frameOf, shapesOf}
+use Rattle.place.specs.declared.row.Row.{Row}
+use Rattle.place.specs.Rows.{rowsIn}
 use Rattle.search.specs.Search.{searchOf}
 
 -- the bytes
@@ -129,6 +135,14 @@ ten = 4621819117588971520
 abbrev pub tenAndAHalf : ℕ
 tenAndAHalf = 4622100592565682176
 
+-- the window (0,0,10,10)
+abbrev pub window : List ℕ
+window = zeroed ∷ zeroed ∷ ten ∷ ten ∷ []
+
+-- the spot (10.5,5)
+abbrev pub beside : List ℕ
+beside = tenAndAHalf ∷ five ∷ []
+
 -- what the search lists for the query block of these patterns, with room for 4,096 places: none for everything, two for a spot, four for a window
 abbrev pub foundBy : List ℕ → Out (List ℕ)
 foundBy ps = on (askOf (blockWith ps)) (λ a. searchOf a sample 4096)
@@ -136,8 +150,21 @@ foundBy ps = on (askOf (blockWith ps)) (λ a. searchOf a sample 4096)
 -- "Window (0,0,10,10)" lists place 0, and so do "spot (10,10)" and "spot (-0,0)"; "spot (10.5,5) none; everything, four"
 abbrev pub Found : Type 0
 Found =
-    (foundBy (zeroed ∷ zeroed ∷ ten ∷ ten ∷ []) ≡ ok (0 ∷ []))
+    (foundBy window ≡ ok (0 ∷ []))
     × (foundBy (ten ∷ ten ∷ []) ≡ ok (0 ∷ []))
     × (foundBy (minusZero ∷ zeroed ∷ []) ≡ ok (0 ∷ []))
-    × (foundBy (tenAndAHalf ∷ five ∷ []) ≡ ok [])
+    × (foundBy beside ≡ ok [])
     × (foundBy [] ≡ ok (0 ∷ 1 ∷ 2 ∷ 3 ∷ []))
+
+-- ---- listing it
+
+-- the sample, but for its last byte
+abbrev pub cut : List ℕ
+cut = take 259 sample
+
+-- the row at place 0, and how many shapes there are in all; and of the sample that was cut, that it is refused behind its two pages
+abbrev pub Listable : Type 0
+Listable =
+    (rowsIn sample (0 ∷ []) ≡ ok (record { register = 101; kind = 3 } ∷ []))
+    × (on (frameOf sample) (λ f. ok (shapesOf (f .pages))) ≡ ok 4)
+    × (on (askOf (blockWith window)) (λ a. searchOf a cut 4096) ≡ refused (onPage 2 (because lengths)))

@@ -16,8 +16,6 @@ use Rattle.answer.proofs.Both.{both, both-l, both-r}
 use Rattle.block.specs.declared.Block.{Block}
 use Rattle.le.specs.Number.{numberAt}
 use Rattle.block.specs.Block.{blockAt}
-use Rattle.le.proofs.Bytes.{number-at-part}
-use Rattle.block.proofs.Blocks as le
 use Rattle.block.proofs.Blocks.{block-fits, block-says}
 use Rattle.extent.specs.Rank.{finite}
 use Rattle.extent.specs.declared.bounds.Bounds.{Bounds}
@@ -113,25 +111,6 @@ len-short s n e =
     let h = body-most (f .block .len) (f .body) in
     let t = f .takes in
     omega (arith, h, t)
-
--- it says no more than its bytes: taken alone, it is found too
-pub len-alone : (s : List ℕ) (n : ℕ) → blockLen s ≡ ok n → blockLen (take n s) ≡ ok n
-len-alone s n e =
-    let f = len-fronts s n e in
-    let b = f .block in
-    let q = block-says s 0 b (f .found) .1 in
-    let t = f .takes in
-    let h = len-fits s n e in
-    let z = length-take n s in
-    fronts-len (take n s) n (record {
-      block = record { kind = b .kind; body = 6; len = b .len };
-      found =
-          le.block-found (take n s) 0 (b .kind) (b .len) (sym (ap (λ (k : Block). k .kind) q) ∙ sym (number-at-part 2 n 0 4 s (omega (arith, t))))
-          (sym (ap (λ (k : Block). k .len) q) ∙ sym (number-at-part 4 n 0 0 s (omega (arith, t)))) (omega (arith, t, h, z));
-      kind = f .kind;
-      body = f .body;
-      takes = t;
-    })
 
 -- ---- exactly a block: what is accepted, and that it is
 

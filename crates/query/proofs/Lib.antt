@@ -5,3 +5,4 @@ pub mod Good
 pub mod Spots
 pub mod Written
 pub mod Refusals
+pub mod Fronting

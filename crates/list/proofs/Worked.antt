@@ -1,0 +1,78 @@
+-- Shown here, by computation: what is printed for document 01's sample file with the window (0,0,10,10), which is the document's own example; an empty list, for the
+-- spot (10.5,5); a refused line with its page, for the sample without its last byte; and one for an input with no query block. Nothing is assumed.
+use Prim.Native.Nat.{ℕ, _≤_}
+use mathlib.Core.Path.{_≡_, refl, sym, ap, ap₂, _∙_}
+use mathlib.Core.List.{List, [], _∷_, _++_, map}
+use native.Mathlib.Omega.{arith}
+use lib.ListN.{length}
+use Rattle.answer.specs.Refusal.{because, onPage}
+use Rattle.answer.specs.Table.{query, lengths}
+use Rattle.answer.specs.declared.Refusal.{Refusal}
+use Rattle.answer.specs.Outcome.{Out, refused, ok, on}
+use Rattle.answer.proofs.Outcomes.{ok-inj, on-ok}
+use Rattle.answer.proofs.Orders.{on-refused, on-value}
+use Rattle.query.specs.Block.{blockLen, askOf, blockWith}
+use Rattle.query.proofs.Good.{len-fronts, len-fits}
+use Rattle.query.proofs.Refusals.{len-only}
+use Rattle.frame.specs.Frame.{Frame, frameOf, shapesOf}
+use Rattle.place.specs.declared.row.Row.{Row}
+use Rattle.place.specs.Rows.{rowsIn}
+use Rattle.place.proofs.Places.{rows-none, rows-sound}
+use Rattle.search.specs.Search.{searchOf}
+use Rattle.text.specs.Decimal.{digitsOf, decimal}
+use Rattle.text.specs.Pieces.{codes, pieceBytes, textOf}
+use Rattle.text.specs.Lines.{row, hitsLine, refusedLine}
+use Rattle.promises.specs.Sample.{sample, cut, window, beside, foundBy}
+use Rattle.promises.proofs.Sampled.{sample-found, sample-listable}
+use Rattle.list.specs.Listing.{Listing, listing, listingWith, listingAt, listingFor, listingOf}
+use Rattle.list.specs.Printed.{rowLines, linesOf, printedOf}
+use Rattle.list.proofs.Asked.{asked-lists}
+
+-- what is printed is told by what is listed
+printed : (input : List ℕ) (o : Out Listing) → listingOf input ≡ o → printedOf input ≡ textOf (linesOf o)
+unfolding printedOf
+printed input o e = ap (λ (x : Out Listing). textOf (linesOf x)) e
+
+-- the sample has four shapes
+four : (f : Frame) × (frameOf sample ≡ ok f) × (shapesOf (f .pages) ≡ 4)
+four = let f = on-ok (frameOf sample) _ 4 (sample-listable .1) in (f .0, f .1, ok-inj (f .2))
+
+-- what the sample lists for a query that finds these places, with these rows
+sampled : (ps l : List ℕ) (rs : List Row) → foundBy ps ≡ ok l → rowsIn sample l ≡ ok rs → listingOf (blockWith ps ++ sample) ≡ ok (listingWith l rs 4)
+unfolding listingFor listingAt
+sampled ps l rs e r =
+    let a = on-ok (askOf (blockWith ps)) _ l e in
+    asked-lists (blockWith ps) sample (a .0) (a .1) (omega arith)
+    ∙ on-value (searchOf (a .0) sample 4096) _ l (a .2)
+    ∙ on-value (rowsIn sample l) _ rs r
+    ∙ on-value (frameOf sample) _ (four .0) (four .1)
+    ∙ ap (λ (n : ℕ). ok (listingWith l rs n)) (four .2)
+
+pub window-prints : printedOf (blockWith window ++ sample) ≡ codes "0 101 3\nhits 1 of 4\n"
+window-prints =
+    printed _ _ (sampled window (0 ∷ []) _ (sample-found .0) (sample-listable .0))
+    ∙ unfold digitsOf decimal codes pieceBytes textOf row hitsLine rowLines linesOf in refl
+
+-- no place, no row
+pub beside-prints : printedOf (blockWith beside ++ sample) ≡ codes "hits 0 of 4\n"
+beside-prints =
+    printed _ _ (sampled beside [] [] (sample-found .3) (rows-sound sample [] (four .0) (four .1) ∙ rows-none (four .0 .pages)))
+    ∙ unfold digitsOf decimal codes pieceBytes textOf hitsLine rowLines linesOf in refl
+
+pub cut-prints : printedOf (blockWith window ++ cut) ≡ codes "refused 4 page 2\n"
+unfolding listingFor
+cut-prints =
+    let a = on-ok (askOf (blockWith window)) _ (0 ∷ []) (sample-found .0) in
+    let w = sym (on-value (askOf (blockWith window)) (λ x. searchOf x cut 4096) (a .0) (a .1)) ∙ sample-listable .2 in
+    printed _ _ (asked-lists (blockWith window) cut (a .0) (a .1) (omega arith) ∙ on-refused (searchOf (a .0) cut 4096) _ (onPage 2 (because lengths)) w)
+    ∙ unfold digitsOf decimal codes pieceBytes textOf refusedLine linesOf in refl
+
+pub nothing-prints : printedOf [] ≡ codes "refused 1 page 0\n"
+unfolding listingOf
+nothing-prints =
+    printed _ _ (on-refused (blockLen []) _ (because query) (go (blockLen []) refl))
+    ∙ unfold digitsOf decimal codes pieceBytes textOf refusedLine linesOf in refl
+  where
+    go : (o : Out ℕ) → blockLen [] ≡ o → blockLen [] ≡ refused (because query)
+    go (refused w) e = e ∙ ap refused (len-only [] w e)
+    go (ok n) e = absurd (omega (arith, len-fits [] n e, len-fronts [] n e .takes))
