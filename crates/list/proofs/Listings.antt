@@ -12,7 +12,7 @@ use Rattle.answer.specs.declared.Refusal.{Refusal}
 use Rattle.answer.specs.declared.Filled.{Filled}
 use Rattle.answer.specs.declared.Filled.the-variants as filled
 use Rattle.answer.specs.Refusal.{because}
-use Rattle.answer.specs.Outcome.{Out, refused, ok, need, on, Fills}
+use Rattle.answer.specs.Outcome.{Out, refused, ok, on, Fills}
 use Rattle.answer.proofs.Outcomes.{never, ok-inj, refused-inj, met, unmet, need-ok, on-ok, filled-refused, filled-start}
 use Rattle.answer.proofs.Orders.{on-refused, on-value}
 use Rattle.query.specs.declared.ask.Ask.{Ask}
@@ -24,7 +24,7 @@ use Rattle.query.specs.Block.{blockLen, saidLen, askOf, saidAsk}
 use Rattle.frame.specs.declared.walk.Totals.{Totals}
 use Rattle.frame.specs.declared.walk.Checked.{Checked}
 use Rattle.frame.specs.declared.walk.Checked.the-variants as checked
-use Rattle.frame.specs.Frame.{Frame, frameOf, totalsOf, shapesOf}
+use Rattle.frame.specs.Frame.{frameOf, totalsOf, shapesOf}
 use Rattle.frame.specs.Said.{saidChecked}
 use Rattle.frame.proofs.Walks.{sound-said, frame-refusal-said}
 use Rattle.place.specs.declared.row.Row.{Row}
@@ -178,15 +178,34 @@ module _ (a : Ask) (file d P : List ℕ) (r : Filled) (f : Fills (searchOf a fil
 
 -- ---- the input
 
+module _ (input : List ℕ) where
+  -- the block's form comes first
+  pub block-refused : (w : Refusal) → blockLen input ≡ refused w → listingOf input ≡ refused w
+  unfolding listingOf
+  block-refused w e = on-refused (blockLen input) _ w e
+
+  pub block-found : (n : ℕ) → blockLen input ≡ ok n → listingOf input ≡ listingBehind input n
+  unfolding listingOf
+  block-found n e = on-value (blockLen input) (listingBehind input) n e
+
+  -- then the file's size
+  module _ (n : ℕ) where
+    pub size-many : 40960 < length (drop n input) → listingBehind input n ≡ refused (because table.many)
+    unfolding listingBehind
+    size-many h = unmet (because table.many) _ (lt-leb (length (drop n input)) 40960 h)
+
+    pub size-within : length (drop n input) ≤ 40960 → listingBehind input n ≡ on (askOf (take n input)) (λ a. listingFor a (drop n input))
+    unfolding listingBehind
+    size-within h = met (because table.many) _ (le-leb (length (drop n input)) 40960 h)
+
+-- as the code is told
 module _ (input : List ℕ) (n : ℕ) where
-  pub behind-many : {P er et : List ℕ} → n ≤ length input → 40960 < length input - n → Lists (listingBehind input n) (Refused (because table.many)) P er et
-  unfolding listingBehind
-  behind-many h k = lists-refused (because table.many) (unmet (because table.many) _ (lt-leb (length (drop n input)) 40960 (omega (arith, length-drop n input))))
+  pub behind-many : {P er et : List ℕ} → 40960 < length input - n → Lists (listingBehind input n) (Refused (because table.many)) P er et
+  behind-many k = lists-refused (because table.many) (size-many input n (omega (arith, length-drop n input)))
 
   module _ (k : length input - n ≤ 40960) (r : AskRead) (q : saidAsk r ≡ askOf (take n input)) where
     within : listingBehind input n ≡ on (askOf (take n input)) (λ a. listingFor a (drop n input))
-    unfolding listingBehind
-    within = met (because table.many) _ (le-leb (length (drop n input)) 40960 (omega (arith, length-drop n input)))
+    within = size-within input n (omega (arith, length-drop n input))
 
     pub behind-refused : (w : Refusal) {P er et : List ℕ} → r ≡ asked.Refused w → Lists (listingBehind input n) (Refused w) P er et
     unfolding saidAsk
@@ -202,16 +221,15 @@ module _ (input : List ℕ) (n : ℕ) where
 
 module _ (input : List ℕ) (r : BlockLen) (q : saidLen r ≡ blockLen input) where
   pub input-refused : (w : Refusal) {P er et : List ℕ} → r ≡ len.Refused w → Lists (listingOf input) (Refused w) P er et
-  unfolding saidLen listingOf
-  input-refused w e = lists-refused w (on-refused (blockLen input) _ w (sym q ∙ ap saidLen e))
+  unfolding saidLen
+  input-refused w e = lists-refused w (block-refused input w (sym q ∙ ap saidLen e))
 
   pub input-block : (n : ℕ) → r ≡ len.Is n → blockLen input ≡ ok n
   unfolding saidLen
   input-block n e = sym q ∙ ap saidLen e
 
   pub input-listed : (n : ℕ) {says : Listed} {P er et : List ℕ} → r ≡ len.Is n → Lists (listingBehind input n) says P er et → Lists (listingOf input) says P er et
-  unfolding listingOf
-  input-listed n e l = lists-same (sym (on-value (blockLen input) (listingBehind input) n (input-block n e))) l
+  input-listed n e l = lists-same (sym (block-found input n (input-block n e))) l
 
 -- ---- what is listed
 

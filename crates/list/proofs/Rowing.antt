@@ -6,7 +6,7 @@ use mathlib.Core.List.{List, [], _∷_, _++_, append-assoc, append-nil}
 use native.Mathlib.Numerals.{add-one}
 use native.Mathlib.Omega.{arith}
 use lib.ListN.{length, getD, take, drop, drop-of-length-le}
-use lib.Seq.{sets, drop-cons, drop-drop}
+use lib.Seq.{drop-cons, drop-drop}
 use Rattle.text.specs.Pieces.{Piece, textOf, Puts}
 use Rattle.text.specs.Lines.{row}
 use Rattle.text.proofs.Pieces.{_then_}

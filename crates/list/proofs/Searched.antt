@@ -1,7 +1,7 @@
 -- Shown here: behind a search that passed nothing is refused, so that a listing is refused exactly where its block, its size, its query or its search is; and its
 -- places are those that the search lists. Nothing is assumed.
-use Prim.Native.Nat.{ℕ, suc, _≤_, _<_}
-use mathlib.Core.Path.{_≡_, refl, sym, _∙_}
+use Prim.Native.Nat.{ℕ, suc}
+use mathlib.Core.Path.{_≡_, refl, _∙_}
 use mathlib.Core.Bool.{true}
 use mathlib.Core.List.{List, [], _∷_}
 use borrow.Author.Tests.{lt-ltb}
@@ -14,7 +14,7 @@ use Rattle.answer.specs.Outcome.{ok, refused}
 use Rattle.answer.specs.All.{allOf}
 use Rattle.answer.proofs.Alls.{all-none, all-cons}
 use Rattle.answer.proofs.Both.{both}
-use Rattle.answer.proofs.Outcomes.{ok-inj, need-ok, on-ok}
+use Rattle.answer.proofs.Outcomes.{need-ok, on-ok}
 use Rattle.answer.proofs.Orders.{on-refused, on-value}
 use Rattle.query.specs.declared.ask.Ask.{Ask}
 use Rattle.frame.specs.Frame.{Page, shapesOf, frameOf}
@@ -43,8 +43,7 @@ module _ (a : Ask) (file : List ℕ) where
       let x = on-ok (hitsOf a file) _ l e in
       let hits : hitsOf a file ≡ ok l = x .1 ∙ need-ok (leb (length (x .0)) mostHits) (because table.room) (ok (x .0)) l (x .2) .1 in
       let f = hits-met a file l hits in
-      let rows = rows-there (f .0 .pages) l (all-there (f .0 .pages) 0 l (hits-ascend a file l hits)) in
-      (
+      let rows = rows-there (f .0 .pages) l (all-there (f .0 .pages) 0 l (hits-ascend a file l hits)) in (
         listingWith l (rows .0) (shapesOf (f .0 .pages)),
         on-value (searchOf a file mostHits) (listingAt file) l e
             ∙ on-value (rowsIn file l) _ (rows .0) (rows-sound file l (f .0) (f .1) ∙ rows .1)

@@ -1,14 +1,12 @@
 -- Shown here, by computation: what is printed for document 01's sample file with the window (0,0,10,10), which is the document's own example; an empty list, for the
 -- spot (10.5,5); a refused line with its page, for the sample without its last byte; and one for an input with no query block. Nothing is assumed.
-use Prim.Native.Nat.{ℕ, _≤_}
-use mathlib.Core.Path.{_≡_, refl, sym, ap, ap₂, _∙_}
-use mathlib.Core.List.{List, [], _∷_, _++_, map}
+use Prim.Native.Nat.{ℕ}
+use mathlib.Core.Path.{_≡_, refl, sym, ap, _∙_}
+use mathlib.Core.List.{List, [], _∷_, _++_}
 use native.Mathlib.Omega.{arith}
-use lib.ListN.{length}
 use Rattle.answer.specs.Refusal.{because, onPage}
 use Rattle.answer.specs.Table.{query, lengths}
-use Rattle.answer.specs.declared.Refusal.{Refusal}
-use Rattle.answer.specs.Outcome.{Out, refused, ok, on}
+use Rattle.answer.specs.Outcome.{Out, refused, ok}
 use Rattle.answer.proofs.Outcomes.{ok-inj, on-ok}
 use Rattle.answer.proofs.Orders.{on-refused, on-value}
 use Rattle.query.specs.Block.{blockLen, askOf, blockWith}
@@ -24,9 +22,10 @@ use Rattle.text.specs.Pieces.{codes, pieceBytes, textOf}
 use Rattle.text.specs.Lines.{row, hitsLine, refusedLine}
 use Rattle.promises.specs.Sample.{sample, cut, window, beside, foundBy}
 use Rattle.promises.proofs.Sampled.{sample-found, sample-listable}
-use Rattle.list.specs.Listing.{Listing, listing, listingWith, listingAt, listingFor, listingOf}
+use Rattle.list.specs.Listing.{Listing, listingWith, listingAt, listingFor, listingOf}
 use Rattle.list.specs.Printed.{rowLines, linesOf, printedOf}
 use Rattle.list.proofs.Asked.{asked-lists}
+use Rattle.list.proofs.Listings.{block-refused}
 
 -- what is printed is told by what is listed
 printed : (input : List ℕ) (o : Out Listing) → listingOf input ≡ o → printedOf input ≡ textOf (linesOf o)
@@ -68,9 +67,8 @@ cut-prints =
     ∙ unfold digitsOf decimal codes pieceBytes textOf refusedLine linesOf in refl
 
 pub nothing-prints : printedOf [] ≡ codes "refused 1 page 0\n"
-unfolding listingOf
 nothing-prints =
-    printed _ _ (on-refused (blockLen []) _ (because query) (go (blockLen []) refl))
+    printed _ _ (block-refused [] (because query) (go (blockLen []) refl))
     ∙ unfold digitsOf decimal codes pieceBytes textOf refusedLine linesOf in refl
   where
     go : (o : Out ℕ) → blockLen [] ≡ o → blockLen [] ≡ refused (because query)

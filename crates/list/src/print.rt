@@ -30,10 +30,8 @@ pub fn write(p: Printed, input: &[u8], stretch: &[u8]) -> Printed
             os::fail(b"list: standard output");
         }
     }
-    Printed {
-        k: p.k + stretch.len(),
-        taken: taken,
-    }
+    let k = p.k + stretch.len();
+    Printed { k, taken }
 }
 
 // Prints what an input lists, any bytes: all of it.

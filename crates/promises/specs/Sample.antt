@@ -10,7 +10,6 @@ use Rattle.answer.specs.Refusal.{because, onPage}
 use Rattle.answer.specs.Outcome.{Out, refused, ok, on}
 use Rattle.query.specs.Block.{askOf, blockWith}
 use Rattle.frame.specs.Frame.{frameOf, shapesOf}
-use Rattle.place.specs.declared.row.Row.{Row}
 use Rattle.place.specs.Rows.{rowsIn}
 use Rattle.search.specs.Search.{searchOf}
 

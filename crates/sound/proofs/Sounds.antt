@@ -2,10 +2,13 @@
 -- Nothing is assumed.
 use Prim.Native.Nat.{ℕ, _+_, _≤_, _<_}
 use mathlib.Core.Path.{_≡_, refl, sym, ap, _∙_, subst}
+use mathlib.Core.Bool.{Bool, true, false}
 use mathlib.Core.List.{List, [], _++_, append-nil}
 use native.Mathlib.Omega.{arith}
-use borrow.Author.Tests.{le-leb, lt-leb}
-use lib.ListN.{length}
+use borrow.Author.Tests.{leb-true, leb-false, le-leb, lt-leb}
+use lib.Dec.{leb}
+use lib.ListN.{length, take, length-take}
+use lib.Seq.{take-all}
 use Rattle.answer.specs.declared.Refusal.{Refusal}
 use Rattle.answer.specs.Table.{many}
 use Rattle.answer.specs.Refusal.{because}
@@ -21,7 +24,7 @@ use Rattle.text.specs.Lines.{refusedLine, soundLine}
 use Rattle.text.specs.Stretch.{Stretch}
 use Rattle.text.proofs.Pieces.{text-most}
 use Rattle.text.proofs.Stretches.{Written, written-none, written-next, written-more, written-all}
-use Rattle.sound.specs.Sound.{judgedOf, lineOf, soundOf, printedOf}
+use Rattle.sound.specs.Sound.{mostRead, judgedOf, lineOf, soundOf, printedOf}
 
 -- over 40,960 bytes, and no more
 pub judged-many : (s : List ℕ) → 40960 < length s → saidChecked (Refused (because many)) ≡ judgedOf s
@@ -64,3 +67,17 @@ module _ (s : List ℕ) (l : List ℕ) (e : l ≡ textOf (soundOf s)) where
 
   pub line-all : (m : ℕ) → m ≡ 0 + length l → m ≡ length (printedOf s)
   line-all m q = q ∙ written-all _ _ (written-more _ _ _ _ line-none l e)
+
+-- the first 40,961 bytes decide it, so that no more need be read
+pub printed-first : (s : List ℕ) → printedOf (take mostRead s) ≡ printedOf s
+unfolding printedOf soundOf
+printed-first s = ap (λ (o : Out Totals). textOf (lineOf o)) (go (leb (length s) mostRead) refl)
+  where
+    long : (l : List ℕ) → 40960 < length l → judgedOf l ≡ refused (because many)
+    long l h = sym (judged-many l h) ∙ unfold saidChecked in refl
+
+    go : (t : Bool) → leb (length s) mostRead ≡ t → judgedOf (take mostRead s) ≡ judgedOf s
+    go true e = ap judgedOf (take-all mostRead s (leb-true (length s) mostRead e))
+    go false e =
+        let l : mostRead < length s = leb-false (length s) mostRead e in
+        long (take mostRead s) (omega (arith, length-take mostRead s)) ∙ sym (long s (omega arith))

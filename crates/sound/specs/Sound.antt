@@ -13,6 +13,10 @@ use Rattle.file.specs.Check.{checkOf}
 use Rattle.text.specs.Pieces.{Piece, textOf}
 use Rattle.text.specs.Lines.{refusedLine, soundLine}
 
+-- bytes that are read of an input: one more than the largest file takes
+abbrev pub mostRead : ℕ
+mostRead = 40961
+
 -- 3 for over 40,960 bytes, else the full check
 unfoldable pub judgedOf : List ℕ → Out Totals
 judgedOf s = need (leb (length s) mostInput) (because many) (checkOf s)

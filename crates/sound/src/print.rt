@@ -21,9 +21,8 @@ fn write(p: Printed, input: &[u8], stretch: &[u8]) -> Printed
     if !io::write_all(STDOUT_FILENO, stretch) {
         os::fail(b"sound: standard output");
     }
-    Printed {
-        k: p.k + stretch.len(),
-    }
+    let k = p.k + stretch.len();
+    Printed { k }
 }
 
 // Prints the line for an input, any bytes: all of it.

@@ -4,7 +4,7 @@ use mathlib.Core.Path.{_≡_, sym, ap, ap₂, _∙_}
 use mathlib.Core.List.{List, [], _++_, append-assoc, append-nil}
 use native.Mathlib.Omega.{arith}
 use lib.ListN.{length, take, drop, length-append}
-use lib.Seq.{sets, sets-eq, take-append-seam, drop-append-seam}
+use lib.Seq.{sets-eq, take-append-seam, drop-append-seam}
 use Rattle.text.specs.Pieces.{Piece, textOf, Puts}
 use Rattle.text.specs.Stretch.{Stretch}
 use Rattle.text.proofs.Pieces.{keeps, text-append}

@@ -18,7 +18,7 @@ returns : tie.Need-returns
 returns c =
     let st = c .before .before .before .before .before .before in
     let a = st .args in
-    rw (c .because .ensures) (behind-many (a .input .now) (a .len) (len-fits (a .input .now) (a .len) (st .pre .0)) (omega arith))
+    rw (c .because .ensures) (behind-many (a .input .now) (a .len) (omega arith))
 
 slice-aggregate-ask-of : tie.Need-slice-aggregate-ask-of
 slice-aggregate-ask-of c = let st = c .before .before .before .before .before .before in sym (length-take-le (st .args .len) (st .args .input .now) (len-fits (st .args .input .now) (st .args .len) (st .pre .0)))

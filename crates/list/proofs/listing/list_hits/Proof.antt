@@ -19,7 +19,7 @@ list-places-requires c κs =
     let n = c .before .before .before .before .n .given in
     let h = hits-fit (a .a) (a .file .now) (a .places .now) _ _ (found .ensures) (st .pre .1 .0) _ (n .1) in
     let k = found .kept .1 .1 .0 in
-    (h, (omega (arith, h, k, st .pre .1 .0, st .pre .1 .1 .0), omega (arith, h, k, st .pre .1 .0, st .pre .1 .1 .1)))
+    (omega (arith, h), (omega (arith, h, k, st .pre .1 .0, st .pre .1 .1 .0), omega (arith, h, k, st .pre .1 .0, st .pre .1 .1 .1)))
 
 enum-known-w : tie.Need-enum-known-w
 enum-known-w c = search needs
