@@ -3,7 +3,6 @@
 mod listing;
 mod print;
 mod rows;
-mod say;
 
 use input::Input;
 use input::read_input;

@@ -41,8 +41,8 @@ slice-aggregate-say-rows-3 c = let h = c .before .before .before .before .hits .
 
 say-rows-requires : tie.Need-say-rows-requires
 say-rows-requires c κs =
-    let h = c .before .before .before .before .hits .given in
-    let said = c .before .before .before .before .before .before .before .before .before .list-input in
+    let h = c .before .before .before .before .before .hits .given in
+    let said = c .before .before .before .before .before .before .before .before .before .before .list-input in
     let places = length-take-le (h .0 .0) (said .last .1 .0) (said .ensures .places-fit _ _ (h .1)) in
     let registers = length-take-le (h .0 .0) (said .last .1 .1 .0) (said .ensures .registers-fit _ _ (h .1)) in
     let types = length-take-le (h .0 .0) (said .last .1 .1 .1 .0) (said .ensures .types-fit _ _ (h .1)) in
@@ -52,7 +52,7 @@ enum-known-w : tie.Need-enum-known-w
 enum-known-w c = search needs
 
 say-refused-requires : tie.Need-say-refused-requires
-say-refused-requires c κs = (refl, refused-said (c .before .before .before .before .before .before .list-input .ensures) _ (c .before .w .given .1))
+say-refused-requires c κs = (refl, refused-said (c .before .before .before .before .before .before .before .list-input .ensures) _ (c .before .before .w .given .1))
 
 returns : tie.Need-returns
 returns c = search needs

@@ -1,9 +1,12 @@
--- `sound::print::write` counts what it hands on, which is short. Nothing is assumed.
+-- `sound::print::write` moves the count on by what it hands on, which is short. Nothing is assumed.
 use native.Mathlib.Omega.{arith}
 use Rattle.sound.proofs.Sounds.{printed-short}
 use borrow.Author.Needs.{needs}
 use Rattle.sound.proofs.print.write.Statement.{statement}
 use Rattle.sound.proofs.print.write.Tie as tie
+
+add-k : tie.Need-add-k
+add-k c = let st = c .before .before .before in omega (arith, st .pre .within, printed-short (st .args .input .now))
 
 write-all-requires : tie.Need-write-all-requires
 write-all-requires c κs = search needs
@@ -14,12 +17,13 @@ slice-aggregate-fail c = search needs
 fail-requires : tie.Need-fail-requires
 fail-requires c κs = search needs
 
-add-k : tie.Need-add-k
-add-k c = let st = c .before .before .before .before .before in omega (arith, st .pre .within, printed-short (st .args .input .now))
-
 returns : tie.Need-returns
 returns c = search needs
 
+returns-2 : tie.Need-returns-2
+returns-2 c = search needs
+
 pub write-spec : {M : Type 1} → statement M
 write-spec =
-    tie.close (tie.spec write-all-requires slice-aggregate-fail fail-requires add-k returns)
+    tie.close
+    (tie.spec add-k write-all-requires slice-aggregate-fail fail-requires returns returns-2)

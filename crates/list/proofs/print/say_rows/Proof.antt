@@ -1,4 +1,4 @@
--- `list::say::say_rows` hands on stretch after stretch of the rows and then the last line, each what comes next. Nothing is assumed.
+-- `list::print::say_rows` hands on stretch after stretch of the rows and then the last line, each what comes next. Nothing is assumed.
 use Prim.Native.Nat.{ℕ, _-_, _≤_}
 use mathlib.Core.Path.{_≡_, refl, sym, _∙_, subst}
 use native.Mathlib.Omega.{arith}
@@ -8,14 +8,14 @@ use Rattle.text.proofs.Stretches.{Written, front}
 use Rattle.list.specs.Printed.{printedOf}
 use Rattle.list.proofs.Lines.{leftFrom, listed-none, listed-next, listed-more, listed-last, listed-all}
 use borrow.Author.Needs.{needs}
-use Rattle.list.proofs.say.say_rows.Statement.{statement}
-use Rattle.list.proofs.say.say_rows.Tie as tie
+use Rattle.list.proofs.print.say_rows.Statement.{statement}
+use Rattle.list.proofs.print.say_rows.Tie as tie
 
 abbrev Inv-loop : tie.InvT-loop
-Inv-loop input places registers types shapes n out₀ p₀ i₀ out p i = (i ≤ length places) × (length out ≡ 8192) × Written (printedOf input) (p .k) (leftFrom places registers types shapes i)
+Inv-loop input places registers types shapes k₀ hits out₀ taken₀ i₀ k out taken i = (i ≤ length places) × (length out ≡ 8192) × Written (printedOf input) k (leftFrom places registers types shapes i)
 
 abbrev μ-loop : tie.MeasureT-loop
-μ-loop input places registers types shapes n out₀ p₀ i₀ out p i = length places - i
+μ-loop input places registers types shapes k₀ hits out₀ taken₀ i₀ k out taken i = length places - i
 
 loop-holds : tie.Need-loop-holds Inv-loop μ-loop
 loop-holds c =
@@ -81,10 +81,10 @@ slice-aggregate-write c = search needs
 
 write-requires : tie.Need-write-requires Inv-loop μ-loop
 write-requires c κs =
-    let a = c .before .before .before .before .before .before .before .before .before .before .before .before .before .before .args in
-    let l = c .before .before .before .before .before .before .before .before .before .loop in
-    let e = c .before .before .before .before .before .before .before .stretch-end in
-    let put = c .before .before .put-rows .ensures in
+    let a = c .before .before .before .before .before .before .before .before .before .before .before .before .before .before .before .args in
+    let l = c .before .before .before .before .before .before .before .before .before .before .loop in
+    let e = c .before .before .before .before .before .before .before .before .stretch-end in
+    let put = c .before .before .before .put-rows .ensures in
     listed-next (a .input .now) (a .places .now) (a .registers .now) (a .types .now) (a .shapes) _ (l .i) (l .inv .2) (e .result) (omega (arith, e .ensures)) _ (front (put .0) (put .1 .0))
 
 loop-less : tie.Need-loop-less Inv-loop μ-loop
@@ -92,12 +92,13 @@ loop-less c = omega arith
 
 loop-again : tie.Need-loop-again Inv-loop μ-loop
 loop-again c =
-    let a = c .before .before .before .before .before .before .before .before .before .before .before .before .before .before .before .args in
-    let l = c .before .before .before .before .before .before .before .before .before .before .loop in
-    let e = c .before .before .before .before .before .before .before .before .stretch-end in
-    let put = c .before .before .before .put-rows in
+    let a = c .before .before .before .before .before .before .before .before .before .before .before .before .before .before .before .before .args in
+    let l = c .before .before .before .before .before .before .before .before .before .before .before .loop in
+    let e = c .before .before .before .before .before .before .before .before .before .stretch-end in
+    let put = c .before .before .before .before .put-rows in
     let more = listed-more (a .input .now) (a .places .now) (a .registers .now) (a .types .now) (a .shapes) _ (l .i) (l .inv .2) (e .result) (omega (arith, e .ensures)) _ (front (put .ensures .0) (put .ensures .1 .0)) in
-    (omega (arith, e .ensures), put .kept .0 ∙ l .inv .1, subst (λ (k : ℕ). Written (printedOf (a .input .now)) k (leftFrom (a .places .now) (a .registers .now) (a .types .now) (a .shapes) (e .result))) (sym (c .write .ensures)) more)
+    let rest = leftFrom (a .places .now) (a .registers .now) (a .types .now) (a .shapes) (e .result) in
+    (omega (arith, e .ensures), put .kept .0 ∙ l .inv .1, subst (λ (k : ℕ). Written (printedOf (a .input .now)) k rest) (sym (c .write .ensures)) more)
 
 slice-aggregate-put-hits : tie.Need-slice-aggregate-put-hits Inv-loop μ-loop
 slice-aggregate-put-hits c = search needs
@@ -113,17 +114,17 @@ slice-aggregate-write-2 c = search needs
 
 write-requires-2 : tie.Need-write-requires-2 Inv-loop μ-loop
 write-requires-2 c κs =
-    let a = c .before .before .before .before .before .before .before .before .before .before .args in
-    let l = c .before .before .before .before .before .loop in
-    let put = c .before .before .put-hits .ensures in
-    listed-last (a .input .now) (a .places .now) (a .registers .now) (a .types .now) (a .shapes) _ (l .i) (l .inv .2) (c .before .before .before .before .loop-test .left) _ (front (put .0) (put .1 .1 .0))
-
-returns : tie.Need-returns Inv-loop μ-loop
-returns c =
     let a = c .before .before .before .before .before .before .before .before .before .before .before .args in
     let l = c .before .before .before .before .before .before .loop in
     let put = c .before .before .before .put-hits .ensures in
-    listed-all (a .input .now) (a .places .now) (a .registers .now) (a .types .now) (a .shapes) _ (l .i) (l .inv .2) (c .before .before .before .before .before .loop-test .left) _ (front (put .0) (put .1 .1 .0)) _ (c .write2 .ensures)
+    listed-last (a .input .now) (a .places .now) (a .registers .now) (a .types .now) (a .shapes) _ (l .i) (l .inv .2) (c .before .before .before .before .before .loop-test .left) _ (front (put .0) (put .1 .1 .0))
+
+returns : tie.Need-returns Inv-loop μ-loop
+returns c =
+    let a = c .before .before .before .before .before .before .before .before .before .before .before .before .args in
+    let l = c .before .before .before .before .before .before .before .loop in
+    let put = c .before .before .before .before .put-hits .ensures in
+    listed-all (a .input .now) (a .places .now) (a .registers .now) (a .types .now) (a .shapes) _ (l .i) (l .inv .2) (c .before .before .before .before .before .before .loop-test .left) _ (front (put .0) (put .1 .1 .0)) _ (c .write2 .ensures)
 
 pub say-rows-spec : {M : Type 1} → statement M
 say-rows-spec =

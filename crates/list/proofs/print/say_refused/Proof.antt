@@ -1,9 +1,9 @@
--- `list::say::say_refused` puts the refused line, which is all that is printed. Nothing is assumed.
+-- `list::print::say_refused` puts the refused line, which is all that is printed. Nothing is assumed.
 use Rattle.text.proofs.Stretches.{front}
 use Rattle.list.proofs.Lines.{refused-next, refused-all}
 use borrow.Author.Needs.{needs}
-use Rattle.list.proofs.say.say_refused.Statement.{statement}
-use Rattle.list.proofs.say.say_refused.Tie as tie
+use Rattle.list.proofs.print.say_refused.Statement.{statement}
+use Rattle.list.proofs.print.say_refused.Tie as tie
 
 slice-aggregate-put-refused : tie.Need-slice-aggregate-put-refused
 slice-aggregate-put-refused c = search needs
@@ -19,14 +19,14 @@ slice-aggregate-write c = search needs
 
 write-requires : tie.Need-write-requires
 write-requires c κs =
-    let st = c .before .before .before .before .before in
-    let put = c .before .before .put-refused .ensures in
+    let st = c .before .before .before .before .before .before in
+    let put = c .before .before .before .put-refused .ensures in
     refused-next (st .args .input .now) (st .args .w) (st .pre .1) _ (st .pre .0) _ (front (put .0) (put .1 .1 .0))
 
 returns : tie.Need-returns
 returns c =
-    let st = c .before .before .before .before .before .before in
-    let put = c .before .before .before .put-refused .ensures in
+    let st = c .before .before .before .before .before .before .before in
+    let put = c .before .before .before .before .put-refused .ensures in
     refused-all (st .args .input .now) (st .args .w) (st .pre .1) _ (st .pre .0) _ _ (front (put .0) (put .1 .1 .0)) (c .write .ensures)
 
 pub say-refused-spec : {M : Type 1} → statement M
