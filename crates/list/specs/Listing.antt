@@ -63,7 +63,13 @@ listingBehind input n =
 unfoldable pub listingOf : List ℕ → Out Listing
 listingOf input = on (blockLen input) (listingBehind input)
 
--- what the code's answer says, with the three rooms that it was lent
+-- the three rooms that such a call is lent have each as much
+pub record Rooms (places registers types : List ℕ) : Type 0 where
+  pub for-places : length places ≡ mostHits
+  pub for-registers : length registers ≡ mostHits
+  pub for-types : length types ≡ mostHits
+
+-- what the code's answer says, with the three rooms
 unfoldable pub saidListed : Listed → List ℕ → List ℕ → List ℕ → Out Listing
 saidListed (Rows hits shapes) places registers types = ok (listing (take hits places) (take hits registers) (take hits types) shapes)
 saidListed (Refused w) places registers types = refused w

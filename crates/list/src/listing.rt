@@ -3,10 +3,11 @@ ghost use mathlib.Core.Path.{_≡_};
 ghost use mathlib.Core.Bool.{true};
 ghost use Prim.Native.Nat.{_≤_};
 ghost use lib.ListN.{length, take};
+ghost use Rattle.answer.specs.Lent.{came, left};
 ghost use Rattle.answer.specs.Outcome.{ok};
 ghost use Rattle.query.specs.Ask.{goodQuery};
 ghost use Rattle.query.specs.Block.{blockLen};
-ghost use Rattle.list.specs.Listing.{mostHits, listingAt, listingFor, listingBehind, listingOf, Lists};
+ghost use Rattle.list.specs.Listing.{listingAt, listingFor, listingBehind, listingOf, Rooms, Lists};
 use answer::Filled;
 use answer::Refusal;
 use answer::limits::MOST_INPUT;
@@ -21,7 +22,8 @@ use query::query_block::ask_of;
 use query::query_block::block_len;
 use search::search::search_good;
 
-// How many hits, whose places, registers and types stand at the start of the three rooms, and how many shapes the file has in all; or the refusal.
+// How many hits, whose places, registers and types stand at the start of the three rooms, and how many shapes the file has in all; or
+// the refusal.
 pub enum Listed {
     Rows(usize, usize),
     Refused(Refusal),
@@ -38,7 +40,7 @@ fn list_places(
     requires { ⌜ n ≤ length (now places) ⌝ }
     requires { ⌜ n ≤ length (now registers) ⌝ }
     requires { ⌜ n ≤ length (now types) ⌝ }
-    ensures { λ r. ⌜ Lists (listingAt (now (file .entry)) (take n (now (places .entry)))) r (now (places .entry)) (now (registers .exit)) (now (types .exit)) ⌝ }
+    ensures { λ r. ⌜ Lists (listingAt (came file) (take n (came places))) r (came places) (left registers) (left types) ⌝ }
 {
     match rows(file, &places[..n], registers, types) {
         Filled::Start(_) => match frame(file) {
@@ -58,10 +60,8 @@ fn list_hits(
     types: &mut [u8],
 ) -> Listed
     requires { ⌜ goodQuery (a .query) ≡ true ⌝ }
-    requires { ⌜ length (now places) ≡ mostHits ⌝ }
-    requires { ⌜ length (now registers) ≡ mostHits ⌝ }
-    requires { ⌜ length (now types) ≡ mostHits ⌝ }
-    ensures { λ r. ⌜ Lists (listingFor a (now (file .entry))) r (now (places .exit)) (now (registers .exit)) (now (types .exit)) ⌝ }
+    requires { ⌜ Rooms (now places) (now registers) (now types) ⌝ }
+    ensures { λ r. ⌜ Lists (listingFor a (came file)) r (left places) (left registers) (left types) ⌝ }
 {
     match search_good(a, file, places) {
         Filled::Start(n) => list_places(file, n, places, registers, types),
@@ -78,10 +78,8 @@ fn list_behind(
     types: &mut [u8],
 ) -> Listed
     requires { ⌜ blockLen (now input) ≡ ok len ⌝ }
-    requires { ⌜ length (now places) ≡ mostHits ⌝ }
-    requires { ⌜ length (now registers) ≡ mostHits ⌝ }
-    requires { ⌜ length (now types) ≡ mostHits ⌝ }
-    ensures { λ r. ⌜ Lists (listingBehind (now (input .entry)) len) r (now (places .exit)) (now (registers .exit)) (now (types .exit)) ⌝ }
+    requires { ⌜ Rooms (now places) (now registers) (now types) ⌝ }
+    ensures { λ r. ⌜ Lists (listingBehind (came input) len) r (left places) (left registers) (left types) ⌝ }
 {
     if MOST_INPUT < input.len() - len {
         return Listed::Refused(Refusal::because(MANY));
@@ -99,10 +97,8 @@ pub fn list_input(
     registers: &mut [u32],
     types: &mut [u8],
 ) -> Listed
-    requires { ⌜ length (now places) ≡ mostHits ⌝ }
-    requires { ⌜ length (now registers) ≡ mostHits ⌝ }
-    requires { ⌜ length (now types) ≡ mostHits ⌝ }
-    ensures { λ r. ⌜ Lists (listingOf (now (input .entry))) r (now (places .exit)) (now (registers .exit)) (now (types .exit)) ⌝ }
+    requires { ⌜ Rooms (now places) (now registers) (now types) ⌝ }
+    ensures { λ r. ⌜ Lists (listingOf (came input)) r (left places) (left registers) (left types) ⌝ }
 {
     match block_len(input) {
         BlockLen::Is(len) => list_behind(input, len, places, registers, types),

@@ -1,6 +1,7 @@
-// Printing, and how much is printed: a count that no other module sees. One function of this program writes to standard output. It is lent the count and handed a
-// stretch, which must be what comes next, and moves the count on; so the same stretch cannot be written twice.
+// Printing, and how much is printed: a count that no other module can make. One function of this program writes to standard output. It is
+// lent the count and handed a stretch, which must be what comes next, and moves the count on; so no stretch is written twice.
 ghost use mathlib.Core.Path.{_≡_};
+ghost use mathlib.Core.Bool.{false};
 ghost use Prim.Native.Nat.{_+_, _≤_, _<_};
 ghost use lib.ListN.{length};
 ghost use Rattle.answer.specs.Outcome.{refused, ok};
@@ -23,11 +24,12 @@ pub struct Printed {
 // Rows of one stretch: so many take at most 8,064 bytes.
 const STRETCH: usize = 128;
 
-// Writes a stretch, or says on standard error why it could not. The answer is whether all bytes so far were taken: once some were not, nothing more is written, so that
-// no row is missing before the last line.
+// Writes a stretch, or says on standard error why it could not. The answer is whether all bytes so far were taken: once some were not,
+// nothing more is written, so that no row is missing before the last line.
 fn write(input: &[u8], stretch: &[u8], taken: bool, k: &mut usize) -> bool
     requires { ⌜ Stretch (printedOf (now input)) (now k) (now stretch) ⌝ }
-    ensures { λ _. ⌜ now (k .exit) ≡ now (k .entry) + length (now (stretch .entry)) ⌝ }
+    ensures moved { λ _. ⌜ now (k .exit) ≡ now (k .entry) + length (now (stretch .entry)) ⌝ }
+    ensures stays { λ r. ⌜ (taken ≡ false → r ≡ false) ⌝ }
 {
     *k += stretch.len();
     if !taken {

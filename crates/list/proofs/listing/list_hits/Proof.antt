@@ -17,9 +17,9 @@ list-places-requires c κs =
     let a = st .args in
     let found = c .before .before .before .before .before .before .before .before .search-good in
     let n = c .before .before .before .before .n .given in
-    let h = hits-fit (a .a) (a .file .now) (a .places .now) _ _ (found .ensures) (st .pre .1 .0) _ (n .1) in
+    let h = hits-fit (a .a) (a .file .now) (a .places .now) _ _ (found .ensures) (st .pre .1 .for-places) _ (n .1) in
     let k = found .kept .1 .1 .0 in
-    (omega (arith, h), (omega (arith, h, k, st .pre .1 .0, st .pre .1 .1 .0), omega (arith, h, k, st .pre .1 .0, st .pre .1 .1 .1)))
+    (omega (arith, h), (omega (arith, h, k, st .pre .1 .for-places, st .pre .1 .for-registers), omega (arith, h, k, st .pre .1 .for-places, st .pre .1 .for-types)))
 
 enum-known-w : tie.Need-enum-known-w
 enum-known-w c = search needs
@@ -37,7 +37,7 @@ returns : tie.Need-returns
 returns c =
     let st = c .before .before .before .before .before .before .before .before .before .before .before .before .before .before .before .before .before .before .before in
     let a = st .args in
-    hits-listed (a .a) (a .file .now) (a .places .now) _ _ (c .before .before .before .before .before .before .before .before .before .before .before .before .before .search-good .ensures) (st .pre .1 .0) _ (c .before .before .before .before .before .before .before .before .before .n .given .1) (c .before .before .before .before .list-places .ensures)
+    hits-listed (a .a) (a .file .now) (a .places .now) _ _ (c .before .before .before .before .before .before .before .before .before .before .before .before .before .search-good .ensures) (st .pre .1 .for-places) _ (c .before .before .before .before .before .before .before .before .before .n .given .1) (c .before .before .before .before .list-places .ensures)
 
 same-length-4 : tie.Need-same-length-4
 same-length-4 c = search needs
@@ -46,7 +46,7 @@ returns-2 : tie.Need-returns-2
 returns-2 c =
     let st = c .before .before .before .before .before .before .before .before .before .before .before in
     let a = st .args in
-    hits-refused (a .a) (a .file .now) (a .places .now) _ _ (c .before .before .before .before .before .search-good .ensures) (st .pre .1 .0) _ (c .before .w .given .1)
+    hits-refused (a .a) (a .file .now) (a .places .now) _ _ (c .before .before .before .before .before .search-good .ensures) (st .pre .1 .for-places) _ (c .before .w .given .1)
 
 pub list-hits-spec : {M : Type 1} → statement M
 list-hits-spec =

@@ -27,7 +27,7 @@ returns : tie.Need-returns
 returns c =
     let st = c .before .before .before .before .before .before .before in
     let put = c .before .before .before .before .put-refused .ensures in
-    refused-all (st .args .input .now) (st .args .w) (st .pre .1) _ (st .pre .0) _ _ (front (put .0) (put .1 .1 .0)) (c .write .ensures)
+    refused-all (st .args .input .now) (st .args .w) (st .pre .1) _ (st .pre .0) _ _ (front (put .0) (put .1 .1 .0)) (c .write .ensures .0)
 
 pub say-refused-spec : {M : Type 1} → statement M
 say-refused-spec =

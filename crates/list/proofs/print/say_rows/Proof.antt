@@ -98,7 +98,7 @@ loop-again c =
     let put = c .before .before .before .before .put-rows in
     let more = listed-more (a .input .now) (a .places .now) (a .registers .now) (a .types .now) (a .shapes) _ (l .i) (l .inv .2) (e .result) (omega (arith, e .ensures)) _ (front (put .ensures .0) (put .ensures .1 .0)) in
     let rest = leftFrom (a .places .now) (a .registers .now) (a .types .now) (a .shapes) (e .result) in
-    (omega (arith, e .ensures), put .kept .0 ∙ l .inv .1, subst (λ (k : ℕ). Written (printedOf (a .input .now)) k rest) (sym (c .write .ensures)) more)
+    (omega (arith, e .ensures), put .kept .0 ∙ l .inv .1, subst (λ (k : ℕ). Written (printedOf (a .input .now)) k rest) (sym (c .write .ensures .0)) more)
 
 slice-aggregate-put-hits : tie.Need-slice-aggregate-put-hits Inv-loop μ-loop
 slice-aggregate-put-hits c = search needs
@@ -124,7 +124,7 @@ returns c =
     let a = c .before .before .before .before .before .before .before .before .before .before .before .before .args in
     let l = c .before .before .before .before .before .before .before .loop in
     let put = c .before .before .before .before .put-hits .ensures in
-    listed-all (a .input .now) (a .places .now) (a .registers .now) (a .types .now) (a .shapes) _ (l .i) (l .inv .2) (c .before .before .before .before .before .before .loop-test .left) _ (front (put .0) (put .1 .1 .0)) _ (c .write2 .ensures)
+    listed-all (a .input .now) (a .places .now) (a .registers .now) (a .types .now) (a .shapes) _ (l .i) (l .inv .2) (c .before .before .before .before .before .before .loop-test .left) _ (front (put .0) (put .1 .1 .0)) _ (c .write2 .ensures .0)
 
 pub say-rows-spec : {M : Type 1} → statement M
 say-rows-spec =
