@@ -1,7 +1,7 @@
 -- Shown here: what is printed of an input is the refused line, or its rows and the last line, stretch by stretch; and it is short. Nothing is assumed.
 use Prim.Native.Nat.{ℕ, _+_, _-_, _*_, _≤_, _<_}
-use mathlib.Core.Path.{_≡_, refl, sym, ap, _∙_, subst}
-use mathlib.Core.List.{List, [], _∷_, _++_, append-assoc, append-nil}
+use mathlib.Core.Path.{_≡_, refl, ap, _∙_, subst}
+use mathlib.Core.List.{List, [], _∷_, _++_, append-assoc}
 use native.Mathlib.Omega.{arith}
 use lib.ListN.{length, take, drop}
 use Rattle.answer.specs.declared.Refusal.{Refusal}
@@ -10,7 +10,7 @@ use Rattle.text.specs.Pieces.{Piece, codes, textOf, most}
 use Rattle.text.specs.Lines.{row, hitsLine, refusedLine}
 use Rattle.text.specs.Stretch.{Stretch}
 use Rattle.text.proofs.Pieces.{text-most, most-append}
-use Rattle.text.proofs.Stretches.{Written, written-none, written-next, written-more, written-all}
+use Rattle.text.proofs.Stretches.{Written, written-none, written-next, written-more}
 use Rattle.list.specs.Listing.{Listing, listing, listingOf}
 use Rattle.list.specs.Printed.{rowLines, linesOf, printedOf}
 use Rattle.list.proofs.Listings.{listed-few}
@@ -18,20 +18,9 @@ use Rattle.list.proofs.Rowing.{rows-between, rows-over}
 
 -- ---- a refused input
 
-module _ (input : List ℕ) (w : Refusal) (e : listingOf input ≡ refused w) (k : ℕ) (z : k ≡ 0) where
-  refused-text : printedOf input ≡ textOf (refusedLine (w .number) (w .page) ++ [])
-  unfolding printedOf linesOf
-  refused-text = ap (λ (o : Out Listing). textOf (linesOf o)) e ∙ ap textOf (sym (append-nil (refusedLine (w .number) (w .page))))
-
-  refused-none : Written (printedOf input) k (refusedLine (w .number) (w .page) ++ [])
-  refused-none = written-none _ k _ z refused-text
-
-  -- the line is a stretch, and the whole
-  pub refused-next : (l : List ℕ) → l ≡ textOf (refusedLine (w .number) (w .page)) → Stretch (printedOf input) k l
-  refused-next l h = written-next _ _ _ _ refused-none l h
-
-  pub refused-all : (l : List ℕ) (m : ℕ) → l ≡ textOf (refusedLine (w .number) (w .page)) → m ≡ k + length l → m ≡ length (printedOf input)
-  refused-all l m h q = q ∙ written-all _ _ (written-more _ _ _ _ refused-none l h)
+pub refused-left : (input : List ℕ) (w : Refusal) → listingOf input ≡ refused w → (k : ℕ) → k ≡ 0 → Written (printedOf input) k (refusedLine (w .number) (w .page))
+unfolding printedOf linesOf
+refused-left input w e k z = written-none _ k _ z (ap (λ (o : Out Listing). textOf (linesOf o)) e)
 
 -- ---- a listing
 
@@ -60,16 +49,9 @@ module _ (input P R T : List ℕ) (shapes : ℕ) where
       pub listed-more : Written (printedOf input) (k + length l) (leftFrom P R T shapes e)
       listed-more = written-more _ _ _ _ parted l q
 
-    -- the last line comes behind all of them
-    module _ (h : length P ≤ i) (l : List ℕ) (q : l ≡ textOf (hitsLine (length P) shapes)) where
-      last : Written (printedOf input) k (hitsLine (length P) shapes ++ [])
-      last = subst (Written (printedOf input) k) (ap (λ (x : List Piece). x ++ hitsLine (length P) shapes) (rows-over P R T i h) ∙ sym (append-nil (hitsLine (length P) shapes))) w
-
-      pub listed-last : Stretch (printedOf input) k l
-      listed-last = written-next _ _ _ _ last l q
-
-      pub listed-all : (m : ℕ) → m ≡ k + length l → m ≡ length (printedOf input)
-      listed-all m z = z ∙ written-all _ _ (written-more _ _ _ _ last l q)
+    -- and the last line comes behind all of them
+    pub listed-over : length P ≤ i → Written (printedOf input) k (hitsLine (length P) shapes)
+    listed-over h = subst (Written (printedOf input) k) (ap (λ (x : List Piece). x ++ hitsLine (length P) shapes) (rows-over P R T i h)) w
 
 -- ---- it is short
 

@@ -1,9 +1,9 @@
 -- Shown here: what the code says of the bytes that were read is what their definition says, the line that is put for it is theirs, and it is all that is printed.
 -- Nothing is assumed.
-use Prim.Native.Nat.{ℕ, _+_, _≤_, _<_}
+use Prim.Native.Nat.{ℕ, _≤_, _<_}
 use mathlib.Core.Path.{_≡_, refl, sym, ap, _∙_, subst}
 use mathlib.Core.Bool.{Bool, true, false}
-use mathlib.Core.List.{List, [], _++_, append-nil}
+use mathlib.Core.List.{List}
 use native.Mathlib.Omega.{arith}
 use borrow.Author.Tests.{leb-true, leb-false, le-leb, lt-leb}
 use lib.Dec.{leb}
@@ -21,9 +21,8 @@ use Rattle.frame.specs.Said.{saidChecked}
 use Rattle.file.specs.Check.{checkOf}
 use Rattle.text.specs.Pieces.{Piece, codes, textOf, most, Puts}
 use Rattle.text.specs.Lines.{refusedLine, soundLine}
-use Rattle.text.specs.Stretch.{Stretch}
 use Rattle.text.proofs.Pieces.{text-most}
-use Rattle.text.proofs.Stretches.{Written, written-none, written-next, written-more, written-all}
+use Rattle.text.proofs.Stretches.{Written, written-none}
 use Rattle.sound.specs.Sound.{mostRead, judgedOf, lineOf, soundOf, printedOf}
 
 -- over 40,960 bytes, and no more
@@ -56,17 +55,10 @@ printed-short s = omega (arith, text-most (lineOf (judgedOf s)), go (judgedOf s)
     go (refused w) = unfold lineOf most refusedLine codes in omega arith
     go (ok t) = unfold lineOf most soundLine codes in omega arith
 
--- the line is a stretch, and the whole
-module _ (s : List ℕ) (l : List ℕ) (e : l ≡ textOf (soundOf s)) where
-  line-none : Written (printedOf s) 0 (soundOf s ++ [])
-  unfolding printedOf
-  line-none = written-none _ 0 _ refl (ap textOf (sym (append-nil (soundOf s))))
-
-  pub line-next : Stretch (printedOf s) 0 l
-  line-next = written-next _ _ _ _ line-none l e
-
-  pub line-all : (m : ℕ) → m ≡ 0 + length l → m ≡ length (printedOf s)
-  line-all m q = q ∙ written-all _ _ (written-more _ _ _ _ line-none l e)
+-- it is the line, and nothing else
+pub line-left : (s : List ℕ) → Written (printedOf s) 0 (soundOf s)
+unfolding printedOf
+line-left s = written-none _ 0 _ refl refl
 
 -- the first 40,961 bytes decide it, so that no more need be read
 pub printed-first : (s : List ℕ) → printedOf (take mostRead s) ≡ printedOf s

@@ -42,10 +42,16 @@ module _ (text : List ℕ) (k : ℕ) (ps qs : List Piece) (w : Written text k (p
     long = omega (arith, w .long, length-append (w .before) l);
   }
 
--- nothing is left: all are written
-pub written-all : (text : List ℕ) (k : ℕ) → Written text k [] → k ≡ length text
-unfolding textOf
-written-all text k w = omega (arith, w .long, ap length (w .all ∙ append-nil (w .before)))
+-- the text of all that is left is the last stretch, and once it is written the count is the whole length
+module _ (text : List ℕ) (k : ℕ) (ps : List Piece) (w : Written text k ps) (l : List ℕ) (e : l ≡ textOf ps) where
+  ending : text ≡ w .before ++ l
+  ending = w .all ∙ ap (λ (t : List ℕ). w .before ++ t) (sym e)
+
+  pub written-last : Stretch text k l
+  written-last = stretch-between text (w .before) l [] k (ending ∙ ap (λ (t : List ℕ). w .before ++ t) (sym (append-nil l))) (w .long)
+
+  pub written-whole : (m : ℕ) → m ≡ k + length l → m ≡ length text
+  written-whole m q = omega (arith, w .long, ap length ending, length-append (w .before) l)
 
 -- what was put at the start of a room, with room for it, stands there
 pub front : {d t : List ℕ} {ps : List Piece} {r : ℕ} → Puts d 0 ps r t → r ≤ length t → take r t ≡ textOf ps

@@ -1,6 +1,6 @@
 -- `list::print::say_refused` puts the refused line, which is all that is printed. Nothing is assumed.
-use Rattle.text.proofs.Stretches.{front}
-use Rattle.list.proofs.Lines.{refused-next, refused-all}
+use Rattle.text.proofs.Stretches.{written-last, written-whole, front}
+use Rattle.list.proofs.Lines.{refused-left}
 use borrow.Author.Needs.{needs}
 use Rattle.list.proofs.print.say_refused.Statement.{statement}
 use Rattle.list.proofs.print.say_refused.Tie as tie
@@ -21,13 +21,13 @@ write-requires : tie.Need-write-requires
 write-requires c κs =
     let st = c .before .before .before .before .before .before in
     let put = c .before .before .before .put-refused .ensures in
-    refused-next (st .args .input .now) (st .args .w) (st .pre .1) _ (st .pre .0) _ (front (put .0) (put .1 .1 .0))
+    written-last _ _ _ (refused-left (st .args .input .now) (st .args .w) (st .pre .1) _ (st .pre .0)) _ (front (put .0) (put .1 .1 .0))
 
 returns : tie.Need-returns
 returns c =
     let st = c .before .before .before .before .before .before .before in
     let put = c .before .before .before .before .put-refused .ensures in
-    refused-all (st .args .input .now) (st .args .w) (st .pre .1) _ (st .pre .0) _ _ (front (put .0) (put .1 .1 .0)) (c .write .ensures .0)
+    written-whole _ _ _ (refused-left (st .args .input .now) (st .args .w) (st .pre .1) _ (st .pre .0)) _ (front (put .0) (put .1 .1 .0)) _ (c .write .ensures .0)
 
 pub say-refused-spec : {M : Type 1} → statement M
 say-refused-spec =

@@ -4,9 +4,9 @@ use mathlib.Core.Path.{_≡_, refl, sym, _∙_, subst}
 use native.Mathlib.Omega.{arith}
 use lib.ListN.{length}
 use borrow.Rule.Slice.PartMut.{mid-len}
-use Rattle.text.proofs.Stretches.{Written, front}
+use Rattle.text.proofs.Stretches.{Written, written-last, written-whole, front}
 use Rattle.list.specs.Printed.{printedOf}
-use Rattle.list.proofs.Lines.{leftFrom, listed-none, listed-next, listed-more, listed-last, listed-all}
+use Rattle.list.proofs.Lines.{leftFrom, listed-none, listed-next, listed-more, listed-over}
 use borrow.Author.Needs.{needs}
 use Rattle.list.proofs.print.say_rows.Statement.{statement}
 use Rattle.list.proofs.print.say_rows.Tie as tie
@@ -117,14 +117,14 @@ write-requires-2 c κs =
     let a = c .before .before .before .before .before .before .before .before .before .before .before .args in
     let l = c .before .before .before .before .before .before .loop in
     let put = c .before .before .before .put-hits .ensures in
-    listed-last (a .input .now) (a .places .now) (a .registers .now) (a .types .now) (a .shapes) _ (l .i) (l .inv .2) (c .before .before .before .before .before .loop-test .left) _ (front (put .0) (put .1 .1 .0))
+    written-last _ _ _ (listed-over (a .input .now) (a .places .now) (a .registers .now) (a .types .now) (a .shapes) _ (l .i) (l .inv .2) (c .before .before .before .before .before .loop-test .left)) _ (front (put .0) (put .1 .1 .0))
 
 returns : tie.Need-returns Inv-loop μ-loop
 returns c =
     let a = c .before .before .before .before .before .before .before .before .before .before .before .before .args in
     let l = c .before .before .before .before .before .before .before .loop in
     let put = c .before .before .before .before .put-hits .ensures in
-    listed-all (a .input .now) (a .places .now) (a .registers .now) (a .types .now) (a .shapes) _ (l .i) (l .inv .2) (c .before .before .before .before .before .before .loop-test .left) _ (front (put .0) (put .1 .1 .0)) _ (c .write2 .ensures .0)
+    written-whole _ _ _ (listed-over (a .input .now) (a .places .now) (a .registers .now) (a .types .now) (a .shapes) _ (l .i) (l .inv .2) (c .before .before .before .before .before .before .loop-test .left)) _ (front (put .0) (put .1 .1 .0)) _ (c .write2 .ensures .0)
 
 pub say-rows-spec : {M : Type 1} → statement M
 say-rows-spec =
