@@ -1,9 +1,10 @@
 -- One rule after another: what the verdict of the first says of both. Assumes nothing.
-use mathlib.Core.Path.{_≡_, refl, sym, _∙_}
+use mathlib.Core.Path.{_≡_, refl, sym, ap, _∙_}
 use Rattle.answer.specs.Outcome.{Out, refused, ok, on}
 use Rattle.answer.specs.Rule.{judged}
 use Rattle.answer.specs.declared.Refusal.{Refusal}
 use Rattle.answer.specs.declared.Verdict.the-variants.{Holds, Refused}
+use Rattle.answer.proofs.Outcomes.{never, refused-inj}
 use Rattle.answer.proofs.Rules.{judged-holds, judged-refused}
 
 module _ {A B : Type 0} (o : Out A) (f : A → Out B) where
@@ -16,6 +17,12 @@ module _ {A B : Type 0} (o : Out A) (f : A → Out B) where
   pub on-value : (a : A) → o ≡ ok a → on o f ≡ f a
   unfolding on
   on-value a e = rw e
+
+-- and back: where something is only made of its value, what is refused was refused first
+pub on-stopped : {A B : Type 0} (o : Out A) (f : A → B) (w : Refusal) → on o (λ a. ok (f a)) ≡ refused w → o ≡ refused w
+unfolding on
+on-stopped (refused x) f w e = ap refused (refused-inj e)
+on-stopped (ok a) f w e = absurd (never (sym e))
 
 -- one after another, and a third after both
 pub on-on : {A B C : Type 0} (o : Out A) (f : A → Out B) (g : B → Out C) → on (on o f) g ≡ on o (λ a. on (f a) g)

@@ -7,6 +7,7 @@ use lib.ListN.{length}
 use Rattle.answer.specs.declared.Refusal.{Refusal}
 use Rattle.answer.specs.Outcome.{Out, refused, ok, on}
 use Rattle.answer.proofs.Outcomes.{never, ok-inj, refused-inj, on-ok}
+use Rattle.answer.proofs.Orders.{on-stopped}
 use Rattle.frame.specs.declared.cursor.Cursor.{Cursor}
 use Rattle.frame.specs.declared.cursor.PageAt.{PageAt}
 use Rattle.frame.specs.declared.walk.FirstRead.{FirstRead}
@@ -183,12 +184,8 @@ module _ (s : List ℕ) (r : Checked) (q : saidChecked r ≡ on (frameOf s) (λ 
       (a .0, a .1, ok-inj (a .2))
 
   pub frame-refusal-said : (w : Refusal) → r ≡ checked.Refused w → frameOf s ≡ refused w
-  unfolding saidChecked on
-  frame-refusal-said w e = go (frameOf s) (sym q ∙ rw e)
-    where
-      go : (x : Out Frame) → on x (λ f. ok (totalsOf f)) ≡ refused w → x ≡ refused w
-      go (refused v) h = ap refused (refused-inj h)
-      go (ok f) h = absurd (never (sym h))
+  unfolding saidChecked
+  frame-refusal-said w e = on-stopped (frameOf s) totalsOf w (sym q ∙ rw e)
 
 -- an answer is determined by what it says
 pub said-checked-one : (x y : Checked) → saidChecked x ≡ saidChecked y → x ≡ y

@@ -13,8 +13,8 @@ use Rattle.answer.specs.declared.Filled.{Filled}
 use Rattle.answer.specs.declared.Filled.the-variants as filled
 use Rattle.answer.specs.Refusal.{because}
 use Rattle.answer.specs.Outcome.{Out, refused, ok, on, Fills}
-use Rattle.answer.proofs.Outcomes.{never, ok-inj, refused-inj, met, unmet, need-ok, on-ok, filled-refused, filled-start}
-use Rattle.answer.proofs.Orders.{on-refused, on-value}
+use Rattle.answer.proofs.Outcomes.{ok-inj, met, unmet, need-ok, on-ok, filled-refused, filled-start}
+use Rattle.answer.proofs.Orders.{on-refused, on-value, on-stopped}
 use Rattle.query.specs.declared.ask.Ask.{Ask}
 use Rattle.query.specs.declared.query_block.AskRead.{AskRead}
 use Rattle.query.specs.declared.query_block.AskRead.the-variants as asked
@@ -61,12 +61,6 @@ module _ {o : Out Listing} {says : Listed} {places registers types : List ℕ} (
   unfolding saidListed
   rows-said hits shapes e = sym (l .said) ∙ ap (λ (x : Listed). saidListed x places registers types) e
 
--- what is refused after a part that only makes something of its value, that part refused
-stopped : {A B : Type 0} (o : Out A) (f : A → B) (w : Refusal) → on o (λ a. ok (f a)) ≡ refused w → o ≡ refused w
-unfolding on
-stopped (refused x) f w e = ap refused (refused-inj e)
-stopped (ok a) f w e = absurd (never (sym e))
-
 -- ---- hits, with their rows
 
 -- with room for all rows, they are those of the places
@@ -78,7 +72,7 @@ roomy file places a b h k = go (rowsIn file places) refl
     go (ok rs) e = room-both file places a b rs e h k
 
 -- rows that stand in two rooms, for the first n places of a third
-record Rowed (file P : List ℕ) (n : ℕ) (er et : List ℕ) : Type 0 where
+record RowsFor (file P : List ℕ) (n : ℕ) (er et : List ℕ) : Type 0 where
   pub rows : List Row
   pub all : rowsIn file (take n P) ≡ ok rows
   pub registers : take n er ≡ map (λ (r : Row). r .register) rows
@@ -99,9 +93,9 @@ module _ (file P : List ℕ) (n : ℕ) (dr dt er et : List ℕ) (hp : n ≤ leng
   unfolding registersFrom listingAt
   places-refused w e =
       let x = filled-refused _ dr w er (subst (λ (q : Filled). Fills (registersFrom (rowsOf file (take n P) (length dr) (length dt))) dr q er) e fr) in
-      lists-refused w (on-refused (rowsIn file (take n P)) _ w (sym with-room ∙ stopped (rowsOf file (take n P) (length dr) (length dt)) _ w (x .0)))
+      lists-refused w (on-refused (rowsIn file (take n P)) _ w (sym with-room ∙ on-stopped (rowsOf file (take n P) (length dr) (length dt)) _ w (x .0)))
 
-  rowed : (m : ℕ) → r ≡ filled.Start m → Rowed file P n er et
+  rowed : (m : ℕ) → r ≡ filled.Start m → RowsFor file P n er et
   unfolding registersFrom typesFrom
   rowed m e =
       let o = rowsOf file (take n P) (length dr) (length dt) in

@@ -7,7 +7,7 @@ use lib.ListN.{length}
 use Rattle.answer.specs.declared.Refusal.{Refusal}
 use Rattle.answer.specs.Refusal.{onPage}
 use Rattle.answer.specs.Outcome.{Out, refused, ok, on, inPage}
-use Rattle.answer.proofs.Outcomes.{never, ok-inj, refused-inj, on-ok, in-page-refused, in-page-value, in-page-ok}
+use Rattle.answer.proofs.Outcomes.{never, ok-inj, on-ok, in-page-refused, in-page-value, in-page-ok}
 use Rattle.answer.specs.Rule.{judged, passed}
 use Rattle.answer.specs.declared.Verdict.the-variants as verdict
 use Rattle.answer.proofs.Rules.{refused-passed}
@@ -24,7 +24,7 @@ use Rattle.frame.specs.Frame.{Page, pageOf}
 use Rattle.frame.proofs.Ways.{page-inj}
 use Rattle.page.specs.Contents.{registersOf, typesOf, countsOf, lensOf, contentsOf}
 use Rattle.page.specs.Loaded.{Loaded}
-use Rattle.answer.proofs.Orders.{on-refused, on-value}
+use Rattle.answer.proofs.Orders.{on-refused, on-value, on-stopped}
 use Rattle.page.proofs.Contained.{contents-contained, outlines-long, shapes-outlines, loaded-ready}
 use Rattle.search.specs.declared.count.Counted.{Counted}
 use Rattle.search.specs.declared.count.Counted.the-variants.{Hits, Refused}
@@ -48,16 +48,11 @@ meets-ok {n = n} {to = to} {d = d} {e = e} r l q h a = record {
   flags = λ m k. subst (λ (x : List ℕ). Adds d e n to (bitsOf x)) (ok-inj (sym q ∙ k)) a;
 }
 
-length-refused : (o : Out (List ℕ)) (w : Refusal) → on o (λ l. ok (length l)) ≡ refused w → o ≡ refused w
-unfolding on
-length-refused (refused v) w e = ap refused (refused-inj e)
-length-refused (ok l) w e = absurd (never (sym e))
-
 -- and back
 module _ {o : Out (List ℕ)} {n to : ℕ} {d e : List ℕ} (r : Counted) (m : Meets o n to r d e) where
   pub meets-refusal : (w : Refusal) → r ≡ Refused w → o ≡ refused w
   unfolding saidCount
-  meets-refusal w q = length-refused o w (sym (m .said) ∙ rw q)
+  meets-refusal w q = on-stopped o length w (sym (m .said) ∙ rw q)
 
   pub meets-hits : (k : ℕ) → r ≡ Hits k → (l : List ℕ) × (o ≡ ok l) × (k ≡ length l)
   unfolding saidCount
