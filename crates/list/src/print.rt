@@ -21,8 +21,8 @@ pub struct Printed {
     k: usize,
 }
 
-// Rows of one stretch: so many take at most 8,064 bytes.
-const STRETCH: usize = 128;
+// Rows of one stretch: so many take at most 32,256 bytes.
+const STRETCH: usize = 512;
 
 // Writes a stretch, or says on standard error why it could not. The answer is whether all bytes so far were taken: once some were not,
 // nothing more is written, so that no row is missing before the last line.
@@ -56,7 +56,7 @@ fn say_refused(input: &[u8], w: Refusal, k: &mut usize)
 // Where a stretch ends that begins at row i of n.
 fn stretch_end(i: usize, n: usize) -> usize
     requires { ⌜ i < n ⌝ }
-    ensures { λ r. ⌜ (i < r) × (r ≤ n) × (r ≤ i + 128) ⌝ }
+    ensures { λ r. ⌜ (i < r) × (r ≤ n) × (r ≤ i + 512) ⌝ }
 {
     if n - i < STRETCH {
         return n;
@@ -80,7 +80,7 @@ fn say_rows(
     ensures { λ _. ⌜ now (k .exit) ≡ length (printedOf (now (input .entry))) ⌝ }
 {
     let hits = places.len();
-    let mut out = [0u8; 8192];
+    let mut out = [0u8; 32256];
     let mut taken = true;
     let mut i: usize = 0;
     while i < hits {

@@ -12,7 +12,7 @@ use Rattle.list.proofs.print.say_rows.Statement.{statement}
 use Rattle.list.proofs.print.say_rows.Tie as tie
 
 abbrev Inv-loop : tie.InvT-loop
-Inv-loop input places registers types shapes k₀ hits out₀ taken₀ i₀ k out taken i = (i ≤ length places) × (length out ≡ 8192) × Written (printedOf input) k (leftFrom places registers types shapes i)
+Inv-loop input places registers types shapes k₀ hits out₀ taken₀ i₀ k out taken i = (i ≤ length places) × (length out ≡ 32256) × Written (printedOf input) k (leftFrom places registers types shapes i)
 
 abbrev μ-loop : tie.MeasureT-loop
 μ-loop input places registers types shapes k₀ hits out₀ taken₀ i₀ k out taken i = length places - i
