@@ -1,9 +1,11 @@
 -- Shown here, by computation: what is printed for document 01's sample file with the window (0,0,10,10), which is the document's own example; an empty list, for the
--- spot (10.5,5); a refused line with its page, for the sample without its last byte; and one for an input with no query block. Nothing is assumed.
+-- spot (10.5,5); a refused line with its page, for the sample without its last byte; and one for an input with no query block. And that the first of these rows does not
+-- come twice. Nothing is assumed.
 use Prim.Native.Nat.{ℕ}
 use mathlib.Core.Path.{_≡_, refl, sym, ap, _∙_}
 use mathlib.Core.List.{List, [], _∷_, _++_}
 use native.Mathlib.Omega.{arith}
+use lib.ListN.{length, take, drop}
 use Rattle.answer.specs.Refusal.{because, onPage}
 use Rattle.answer.specs.Table.{query, lengths}
 use Rattle.answer.specs.Outcome.{Out, refused, ok}
@@ -20,6 +22,7 @@ use Rattle.search.specs.Search.{searchOf}
 use Rattle.text.specs.Decimal.{digitsOf, decimal}
 use Rattle.text.specs.Pieces.{codes, pieceBytes, textOf}
 use Rattle.text.specs.Lines.{row, hitsLine, refusedLine}
+use Rattle.text.specs.Stretch.{Stretch}
 use Rattle.promises.specs.Sample.{sample, cut, window, beside, foundBy}
 use Rattle.promises.proofs.Sampled.{sample-found, sample-listable}
 use Rattle.list.specs.Listing.{Listing, listingWith, listingAt, listingFor, listingOf}
@@ -74,3 +77,11 @@ nothing-prints =
     go : (o : Out ℕ) → blockLen [] ≡ o → blockLen [] ≡ refused (because query)
     go (refused w) e = e ∙ ap refused (len-only [] w e)
     go (ok n) e = absurd (omega (arith, len-fits [] n e, len-fronts [] n e .takes))
+
+-- its row is a stretch of that output from 0 on, and not once more behind itself: `write` would not take it a second time
+pub row-once : Stretch (printedOf (blockWith window ++ sample)) (length (codes "0 101 3\n")) (codes "0 101 3\n") → ⊥
+unfolding codes
+row-once s =
+    let e : codes "hits 1 o" ≡ codes "0 101 3\n" = sym (ap (λ (t : List ℕ). take 8 (drop 8 t)) window-prints) ∙ s .same in
+    let z : _≡_ {A = ℕ} 104 48 = cc in
+    omega arith

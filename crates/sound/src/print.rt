@@ -1,5 +1,6 @@
 // Printing, and how much is printed: a count that no other module can make. One function of this program writes to standard output. It is
-// lent the count and handed a stretch, which must be what comes next, and moves the count on; so no stretch is written twice.
+// lent the count and handed a stretch, which must be what comes next, and moves the count on: so what is handed on, one stretch behind the
+// other, is the output up to the count.
 ghost use mathlib.Core.Path.{_≡_};
 ghost use Prim.Native.Nat.{_+_};
 ghost use lib.ListN.{length};

@@ -4,7 +4,7 @@ use mathlib.Core.Path.{_≡_, sym, ap, ap₂, _∙_}
 use mathlib.Core.List.{List, [], _++_, append-assoc, append-nil}
 use native.Mathlib.Omega.{arith}
 use lib.ListN.{length, take, drop, length-append}
-use lib.Seq.{sets-eq, take-append-seam, drop-append-seam}
+use lib.Seq.{sets-eq, take-add, take-append-seam, drop-append-seam}
 use Rattle.text.specs.Pieces.{Piece, textOf, Puts}
 use Rattle.text.specs.Stretch.{Stretch}
 use Rattle.text.proofs.Pieces.{keeps, text-append}
@@ -15,6 +15,11 @@ stretch-between text a l b k e h = record {
   within = omega (arith, h, ap length e, length-append a (l ++ b), length-append l b);
   same = ap₂ (λ (n : ℕ) (t : List ℕ). take (length l) (drop n t)) h e ∙ ap (take (length l)) (drop-append-seam a (l ++ b)) ∙ take-append-seam l b;
 }
+
+-- with it, the first k bytes of the text become the first k and its length: so stretches that are written one behind the other, each from where the last one
+-- ended, are together the start of the text
+pub stretch-extends : (text : List ℕ) (k : ℕ) (l : List ℕ) → Stretch text k l → take (k + length l) text ≡ take k text ++ l
+stretch-extends text k l s = take-add k (length l) text ∙ ap (λ (t : List ℕ). take k text ++ t) (s .same)
 
 -- k bytes of a text are written, and what comes next is the text of these pieces
 pub record Written (text : List ℕ) (k : ℕ) (ps : List Piece) : Type 0 where
