@@ -18,9 +18,12 @@
  * fetch about 40 KiB, the full check and the count about 38 KiB, the column read about 17 KiB, each other call less than 2 KiB. BOUNDARY_STACK is more
  * than the greatest of these.
  *
- * The answer of every call is one word. Bits 32 to 39 are the number of a refusal, 0 if there is none. Then bits 0 to 31 are what the call says; else
- * they are the page, from 0, that the refusal concerns, and 0 if it concerns none. Bits 40 to 63 are 0. A refused call has changed no byte of what
- * was lent to it. */
+ * The answer of every call is one word. Bits 32 to 39 are the number of a refusal, 0 if there is none. Then bits 0 to 31 are what the call says, and
+ * all others are 0. Else bits 0 to 31 are the page, from 0, that the refusal concerns, and 0 if it concerns none; bits 40 and 41 the column of that
+ * page, 0 for none; and bits 42 to 53 the index, from 0, of the value of a column at which it was refused. Column and index say something where the
+ * number is 8, 9 or 10, and are 0 elsewhere; bits 54 to 63 are 0. A refused call has changed no byte of what was lent to it.
+ *
+ * A program that was compiled with a header that says "bits 40 to 63 are 0" takes 8, 9 and 10 for numbers that do not exist: compile it again. */
 #ifndef BOUNDARY_H
 #define BOUNDARY_H
 
@@ -34,12 +37,25 @@ extern "C" {
 /* ---- An answer taken apart. Each argument is a uint64_t, and is used once. */
 
 /* The refusal's number, an enum boundary_refusal, or 0. */
-#define BOUNDARY_NUMBER(word) ((uint32_t)((word) >> 32))
+#define BOUNDARY_NUMBER(word) ((uint32_t)((word) >> 32 & 0xFF))
 /* What the call says, where it is not refused. */
 #define BOUNDARY_SAYS(word) ((uint32_t)((word) & UINT32_C(0xFFFFFFFF)))
 /* The page that the refusal concerns, where it is refused: for a fault in the frame of a file the number of page blocks passed before it, for one in
  * a page's contents that page, else 0. */
 #define BOUNDARY_PAGE(word) ((uint32_t)((word) & UINT32_C(0xFFFFFFFF)))
+/* The column of that page which is refused by 8, 9 or 10, an enum boundary_column; for any other number, and where a call reads one column alone, 0. */
+#define BOUNDARY_COLUMN(word) ((uint32_t)((word) >> 40 & 3))
+/* The value of the column, from 0, at which it was refused. By 8: 0. By 9 where bits are lacking: the first value whose bits are not all there, so 0
+ * where the width or the first pattern is missing or cut. By 9 for bytes left over, and by 10: the number of values that the column is to hold. For any
+ * other number 0. */
+#define BOUNDARY_INDEX(word) ((uint32_t)((word) >> 42 & 0xFFF))
+
+/* The columns of a page. */
+enum boundary_column {
+    BOUNDARY_COLUMN_NONE = 0,
+    BOUNDARY_COLUMN_X = 1,
+    BOUNDARY_COLUMN_Y = 2
+};
 
 /* Why a call was refused. These calls give each number exactly when its line holds. */
 enum boundary_refusal {
@@ -113,7 +129,9 @@ uint64_t boundary_column_read(const uint8_t *column, size_t len, size_t n, uint6
 /* One value of a column of n patterns. `position` is four words: bit place, values given, width, last value; a fresh one is all zero. With a value
  * given, the four words are the next position, whose last value is the value, and the call says 1; at the end it says 0 and the position stays. Fewer
  * than four words: 2, before all else; words behind the fourth stay. Any position is taken as it stands, so a caller may keep one, copy it, and go on
- * from it. */
+ * from it. Order: 3, 8, 9, 10. From a fresh position the last answer has the index that the read of the column has. From any other the index is 0 with
+ * 8, the number of values given where bits are lacking for the next one, the lesser of that number and n where the place lies past the bytes, and n
+ * with bytes left over and with 10. */
 uint64_t boundary_column_step(const uint8_t *column, size_t len, size_t n, uint64_t *position, size_t position_len);
 
 /* ---- The writer. Its state is four words in `writer`: position in the buffer, pages, shapes, closed (0, or anything else for closed). Each call

@@ -7,8 +7,7 @@ use native.Mathlib.Omega.{arith}
 use lib.ListN.{length, drop}
 use Rattle.answer.specs.declared.Refusal.{Refusal}
 use Rattle.answer.specs.declared.Filled.the-variants.{Start, Refused}
-use Rattle.answer.specs.Refusal.{onPage}
-use Rattle.answer.specs.Outcome.{Out, refused, ok, need, on, inPage, filled, answered, Fills}
+use Rattle.answer.specs.Outcome.{Out, refused, ok, need, on, marked, filled, answered, Fills}
 
 -- no refusal is a value
 pub never : {A : Type 0} {w : Refusal} {a : A} → refused w ≡ ok a → ⊥
@@ -40,21 +39,21 @@ unfolding on
 on-ok (refused w) f b e = absurd (never e)
 on-ok (ok a) f b e = (a, refl, e)
 
--- ---- an outcome in a page
+-- ---- an outcome whose refusal is marked with where it was met: in a column, in a page
 
-pub in-page-refused : {A : Type 0} {o : Out A} (k : ℕ) (w : Refusal) → o ≡ refused w → inPage k o ≡ refused (onPage k w)
-unfolding inPage
-in-page-refused k w e = rw e
+pub marked-refused : {A : Type 0} {o : Out A} (f : Refusal → Refusal) (w : Refusal) → o ≡ refused w → marked f o ≡ refused (f w)
+unfolding marked
+marked-refused f w e = rw e
 
-pub in-page-value : {A : Type 0} {o : Out A} (k : ℕ) (a : A) → o ≡ ok a → inPage k o ≡ ok a
-unfolding inPage
-in-page-value k a e = rw e
+pub marked-value : {A : Type 0} {o : Out A} (f : Refusal → Refusal) (a : A) → o ≡ ok a → marked f o ≡ ok a
+unfolding marked
+marked-value f a e = rw e
 
 -- and back
-pub in-page-ok : {A : Type 0} (k : ℕ) (o : Out A) (a : A) → inPage k o ≡ ok a → o ≡ ok a
-unfolding inPage
-in-page-ok k (refused w) a e = absurd (never e)
-in-page-ok k (ok b) a e = e
+pub marked-ok : {A : Type 0} (f : Refusal → Refusal) (o : Out A) (a : A) → marked f o ≡ ok a → o ≡ ok a
+unfolding marked
+marked-ok f (refused w) a e = absurd (never e)
+marked-ok f (ok b) a e = e
 
 -- ---- a call that fills a room, by its outcome
 

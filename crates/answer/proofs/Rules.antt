@@ -6,7 +6,7 @@ use Rattle.answer.specs.declared.Refusal.{Refusal}
 use Rattle.answer.specs.declared.Verdict.{Verdict}
 use Rattle.answer.specs.declared.Verdict.the-variants.{Holds, Refused}
 use Rattle.answer.specs.Refusal.{because}
-use Rattle.answer.specs.Outcome.{Out, refused, ok, need, on, inPage}
+use Rattle.answer.specs.Outcome.{Out, refused, ok, need, on, marked}
 use Rattle.answer.specs.Rule.{rule, judged, passed}
 use Rattle.answer.proofs.Outcomes.{never, refused-inj, met, unmet}
 
@@ -69,11 +69,11 @@ unfolding rule need passed on
 rule-passed true n o h m = rw (h refl .1)
 rule-passed false n o h m = rw (m refl)
 
--- met in a page
-pub passed-in-page : {A : Type 0} (k : ℕ) (o : Out A) → passed (inPage k o) ≡ inPage k (passed o)
-unfolding passed on inPage
-passed-in-page k (refused w) = refl
-passed-in-page k (ok a) = refl
+-- marked with where it was met
+pub passed-marked : {A : Type 0} (f : Refusal → Refusal) (o : Out A) → passed (marked f o) ≡ marked f (passed o)
+unfolding passed on marked
+passed-marked f (refused w) = refl
+passed-marked f (ok a) = refl
 
 -- and back: what a verdict that was handed on tells of the outcome
 pub holds-passed : {A : Type 0} (o : Out A) → judged Holds ≡ passed o → (a : A) × (o ≡ ok a)

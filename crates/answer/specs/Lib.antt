@@ -1,5 +1,6 @@
 pub mod Table
 pub mod Limits
+pub mod Axis
 pub mod Refusal
 pub mod Outcome
 pub mod Rule

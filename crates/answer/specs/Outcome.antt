@@ -8,7 +8,7 @@ use lib.ListN.{length, drop}
 use Rattle.answer.specs.declared.Refusal.{Refusal}
 use Rattle.answer.specs.declared.Filled.{Filled}
 use Rattle.answer.specs.declared.Filled.the-variants.{Start, Refused}
-use Rattle.answer.specs.Refusal.{onPage}
+use Rattle.answer.specs.Refusal.{onColumn, onPage}
 
 -- refused, and why; or the value
 pub data Out (A : Type 0) : Type 0 where
@@ -25,10 +25,18 @@ unfoldable pub on : {A B : Type 0} → Out A → (A → Out B) → Out B
 on (refused w) f = refused w
 on (ok a) f = f a
 
+-- the same, a refusal marked with where it was met
+unfoldable pub marked : {A : Type 0} → (Refusal → Refusal) → Out A → Out A
+marked f (refused w) = refused (f w)
+marked f (ok a) = ok a
+
+-- the same, met in column c of a page
+abbrev pub inColumn : {A : Type 0} → ℕ → Out A → Out A
+inColumn c o = marked (onColumn c) o
+
 -- the same, met in page k
-unfoldable pub inPage : {A : Type 0} → ℕ → Out A → Out A
-inPage k (refused w) = refused (onPage k w)
-inPage k (ok a) = ok a
+abbrev pub inPage : {A : Type 0} → ℕ → Out A → Out A
+inPage k o = marked (onPage k) o
 
 -- ---- calls that fill the start of a lent room
 

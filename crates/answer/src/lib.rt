@@ -1,15 +1,21 @@
-// What every service answers. A refusal is one value, a number of the table and a page, and is passed on whole; its page is set here alone.
+// What every service answers. A refusal is one value, a number of the table and where it was met, and is passed on whole; what it names is set here alone.
 ghost use mathlib.Core.Path.{_≡_};
-ghost use Rattle.answer.specs.Refusal.{because, onPage};
+ghost use Prim.Native.Nat.{_≤_};
+ghost use Rattle.answer.specs.Limits.{mostVertices};
+ghost use Rattle.answer.specs.Refusal.{because, atValue, onColumn, onPage};
 ghost use Rattle.answer.specs.Outcome.{inPage};
 ghost use Rattle.answer.specs.Rule.{rule, judged};
 
+pub mod axis;
 pub mod limits;
 pub mod table;
 
-// Why a call was refused: a number of the table, and the page it concerns (0 where it concerns none).
+// Why a call was refused: a number of the table, the column of a page that it concerns (0 none, 1 x, 2 y), the index of a value in a column (0 where
+// it concerns none), and the page (0 likewise). So ordered it takes eight bytes.
 pub struct Refusal {
     pub number: u8,
+    pub column: u8,
+    pub index: u16,
     pub page: u32,
 }
 
@@ -26,11 +32,41 @@ pub enum Verdict {
 }
 
 impl Refusal {
-    // A refusal that concerns no page.
+    // A refusal that concerns no page, no column and no value.
     pub fn because(number: u8) -> Refusal
         ensures { λ r. ⌜ r ≡ because number ⌝ }
     {
-        Refusal { number, page: 0 }
+        Refusal {
+            number,
+            column: axis::NONE,
+            index: 0,
+            page: 0,
+        }
+    }
+
+    // A refusal met at a value of a column.
+    pub fn at_value(number: u8, index: usize) -> Refusal
+        requires { ⌜ index ≤ mostVertices ⌝ }
+        ensures { λ r. ⌜ r ≡ atValue index (because number) ⌝ }
+    {
+        Refusal {
+            number,
+            column: axis::NONE,
+            index: index as u16,
+            page: 0,
+        }
+    }
+
+    // The same refusal, met in a column of a page.
+    pub fn on_column(self, column: u8) -> Refusal
+        ensures { λ r. ⌜ r ≡ onColumn column self ⌝ }
+    {
+        Refusal {
+            number: self.number,
+            column,
+            index: self.index,
+            page: self.page,
+        }
     }
 
     // The same refusal, met in a page.
@@ -39,6 +75,8 @@ impl Refusal {
     {
         Refusal {
             number: self.number,
+            column: self.column,
+            index: self.index,
             page,
         }
     }

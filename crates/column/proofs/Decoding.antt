@@ -11,7 +11,7 @@ use lib.Seq.{take-at}
 use lib.Pow.{shr-lt, pow-mono, pow-pos}
 use borrow.Author.Tests.{le-leb, lt-leb, lt-ltb, le-ltb, eq-eqb, ne-eqb, leb-true, ltb-true, eqb-true, eqb-false}
 use Rattle.answer.specs.Table as Table
-use Rattle.answer.specs.Refusal.{because}
+use Rattle.answer.specs.Refusal.{because, atValue}
 use Rattle.answer.specs.Outcome.{Out, refused, ok, answered, Fills}
 use Rattle.answer.specs.declared.Refusal.{Refusal}
 use Rattle.answer.specs.declared.Filled.{Filled}
@@ -21,7 +21,7 @@ use Rattle.le.specs.Number.{number, field, Bytes}
 use Rattle.le.proofs.Numbers.{number-lt}
 use Rattle.entry.proofs.Reading.{length-values}
 use Rattle.column.specs.Column.{whole}
-use Rattle.column.specs.Read.{saidBy, endOf, endRules, someOf, decodeOf, readOf, scratchOf, Decodes}
+use Rattle.column.specs.Read.{saidBy, endOf, heldOf, endRules, someOf, decodeOf, readOf, scratchOf, Decodes}
 
 pub length-said : (P : ℕ) (s : List ℕ) (n : ℕ) → 0 < n → length (saidBy P s n) ≡ n
 unfolding saidBy
@@ -29,21 +29,21 @@ length-said P s n h = ap suc (length-values P (number s) (getD s 0 0) (n - 1) (8
 
 -- ---- the rules of the end
 
-module _ {A : Type 0} (s : List ℕ) (e : ℕ) (x : Out A) where
-  pub ending-bits : (whole e ≡ length s → ⊥) → endRules s e x ≡ refused (because Table.bits)
+module _ {A : Type 0} (s : List ℕ) (n e : ℕ) (x : Out A) where
+  pub ending-over : whole e < length s → endRules s n e x ≡ refused (atValue n (because Table.bits))
   unfolding endRules
-  ending-bits h = unmet _ _ (ne-eqb _ _ h)
+  ending-over h = unmet _ _ (lt-leb (length s) (whole e) h)
 
-  pub ending-fill : whole e ≡ length s → 2 ^ e ≤ number s → endRules s e x ≡ refused (because Table.fill)
+  pub ending-fill : length s ≤ whole e → 2 ^ e ≤ number s → endRules s n e x ≡ refused (atValue n (because Table.fill))
   unfolding endRules
-  ending-fill h l = met _ _ (eq-eqb _ _ h) ∙ unmet _ _ (le-ltb _ _ l)
+  ending-fill h l = met _ _ (le-leb (length s) (whole e) h) ∙ unmet _ _ (le-ltb _ _ l)
 
-  pub ending-good : whole e ≡ length s → number s < 2 ^ e → endRules s e x ≡ x
+  pub ending-good : length s ≤ whole e → number s < 2 ^ e → endRules s n e x ≡ x
   unfolding endRules
-  ending-good h l = met _ _ (eq-eqb _ _ h) ∙ met _ _ (lt-ltb _ _ l)
+  ending-good h l = met _ _ (le-leb (length s) (whole e) h) ∙ met _ _ (lt-ltb _ _ l)
 
 -- the 64 bits after the end are all that can be left of the bytes
-module _ (s : List ℕ) (e : ℕ) (h : Bytes s) (l : whole e ≡ length s) where
+module _ (s : List ℕ) (e : ℕ) (h : Bytes s) (l : length s ≤ whole e) where
   over : number s / 2 ^ e % 2 ^ 64 ≡ number s / 2 ^ e
   over = mod-eq-of-lt (shr-lt 64 e (lt-of-lt-of-le (number-lt s h) (pow-mono (omega arith))))
 
@@ -60,17 +60,17 @@ module _ (s : List ℕ) (e : ℕ) (h : Bytes s) (l : whole e ≡ length s) where
 -- ---- decoding, by its outcome
 
 module _ (P : ℕ) (s : List ℕ) (n : ℕ) where
-  pub decode-zero : n ≡ 0 → decodeOf P s n ≡ endRules s 0 (ok [])
+  pub decode-zero : n ≡ 0 → decodeOf P s n ≡ endRules s 0 0 (ok [])
   unfolding decodeOf
   decode-zero e = simp (eq-eqb _ _ e)
 
   pub decode-none : n ≡ 0 → length s ≡ 0 → Bytes s → decodeOf P s n ≡ ok []
   decode-none e l h =
       let z : 8 * length s ≤ 0 = omega arith in
-      decode-zero e ∙ ending-good s 0 (ok []) (sym l) (lt-of-lt-of-le (number-lt s h) (pow-mono z))
+      decode-zero e ∙ ending-good s 0 0 (ok []) (omega arith) (lt-of-lt-of-le (number-lt s h) (pow-mono z))
 
   pub decode-none-bits : n ≡ 0 → (length s ≡ 0 → ⊥) → decodeOf P s n ≡ refused (because Table.bits)
-  decode-none-bits e l = decode-zero e ∙ ending-bits s 0 (ok []) (λ q. l (sym q))
+  decode-none-bits e l = decode-zero e ∙ ending-over s 0 0 (ok []) (omega arith)
 
   module _ (h0 : n ≡ 0 → ⊥) where
     some : decodeOf P s n ≡ someOf P s n
@@ -86,25 +86,36 @@ module _ (P : ℕ) (s : List ℕ) (n : ℕ) where
       unfolding someOf
       decode-wide l = some ∙ met _ _ (le-leb 1 (length s) (omega arith)) ∙ unmet _ _ (lt-leb _ _ l)
 
-      pub decode-ending : getD s 0 0 ≤ P → decodeOf P s n ≡ endRules s (endOf P s n) (ok (saidBy P s n))
-      unfolding someOf
-      decode-ending l = some ∙ met _ _ (le-leb 1 (length s) (omega arith)) ∙ met _ _ (le-leb _ _ l)
+      module _ (hw : getD s 0 0 ≤ P) where
+        pub decode-few : 8 * length s < endOf P s n → decodeOf P s n ≡ refused (atValue (heldOf P s n) (because Table.bits))
+        unfolding someOf
+        decode-few l = some ∙ met _ _ (le-leb 1 (length s) (omega arith)) ∙ met _ _ (le-leb _ _ hw) ∙ unmet _ _ (lt-leb (endOf P s n) (8 * length s) l)
+
+        pub decode-ending : endOf P s n ≤ 8 * length s → decodeOf P s n ≡ endRules s n (endOf P s n) (ok (saidBy P s n))
+        unfolding someOf
+        decode-ending l = some ∙ met _ _ (le-leb 1 (length s) (omega arith)) ∙ met _ _ (le-leb _ _ hw) ∙ met _ _ (le-leb (endOf P s n) (8 * length s) l)
 
 -- ---- the same, where the code has found the place e at which the entries end
 
 module _ (P : ℕ) (s : List ℕ) (n : ℕ) (h0 : n ≡ 0 → ⊥) (hs : length s ≡ 0 → ⊥) (hw : getD s 0 0 ≤ P) (e : ℕ) (he : e ≡ endOf P s n) where
-  at-end : decodeOf P s n ≡ endRules s e (ok (saidBy P s n))
-  at-end = rw he (decode-ending P s n h0 hs hw)
+  at-end : whole e ≤ length s → decodeOf P s n ≡ endRules s n e (ok (saidBy P s n))
+  at-end l = rw he (decode-ending P s n h0 hs hw (omega (arith, he)))
 
-  pub ended-bits : (whole e ≡ length s → ⊥) → decodeOf P s n ≡ refused (because Table.bits)
-  ended-bits l = at-end ∙ ending-bits s e (ok (saidBy P s n)) l
+  pub ended-few : length s < whole e → decodeOf P s n ≡ refused (atValue (heldOf P s n) (because Table.bits))
+  ended-few l = decode-few P s n h0 hs hw (omega (arith, he))
+
+  pub ended-over : whole e < length s → decodeOf P s n ≡ refused (atValue n (because Table.bits))
+  ended-over l = at-end (omega arith) ∙ ending-over s n e (ok (saidBy P s n)) l
 
   module _ (b : Bytes s) (l : whole e ≡ length s) where
-    pub ended-fill : (number s / 2 ^ e % 2 ^ 64 ≡ 0 → ⊥) → decodeOf P s n ≡ refused (because Table.fill)
-    ended-fill z = at-end ∙ ending-fill s e (ok (saidBy P s n)) l (fill-some s e b l z)
+    least : length s ≤ whole e
+    least = omega (arith, l)
+
+    pub ended-fill : (number s / 2 ^ e % 2 ^ 64 ≡ 0 → ⊥) → decodeOf P s n ≡ refused (atValue n (because Table.fill))
+    ended-fill z = at-end (omega (arith, l)) ∙ ending-fill s n e (ok (saidBy P s n)) least (fill-some s e b least z)
 
     pub ended-good : number s / 2 ^ e % 2 ^ 64 ≡ 0 → decodeOf P s n ≡ ok (saidBy P s n)
-    ended-good z = at-end ∙ ending-good s e (ok (saidBy P s n)) l (fill-zero s e b l z)
+    ended-good z = at-end (omega (arith, l)) ∙ ending-good s n e (ok (saidBy P s n)) least (fill-zero s e b least z)
 
 -- ---- reading, by its outcome
 
@@ -164,14 +175,13 @@ module _ (P : ℕ) (s : List ℕ) (n : ℕ) (d : List ℕ) where
         left : new ≡ scratchOf P s n d
         left = hn ∙ scratch-said h0 hs hw
 
-        pub decodes-bits : (whole e ≡ length s → ⊥) → Decodes P s n d (Refused (because Table.bits)) new
+        pub decodes-refused : (w : Refusal) → decodeOf P s n ≡ refused w → Decodes P s n d (Refused w) new
         unfolding answered
-        decodes-bits l = record { answer = rw (ended-bits P s n h0 hs hw e he l); scratch = left }
+        decodes-refused w q = record { answer = rw q; scratch = left }
 
         module _ (b : Bytes s) (l : whole e ≡ length s) where
-          pub decodes-fill : (number s / 2 ^ e % 2 ^ 64 ≡ 0 → ⊥) → Decodes P s n d (Refused (because Table.fill)) new
-          unfolding answered
-          decodes-fill z = record { answer = rw (ended-fill P s n h0 hs hw e he b l z); scratch = left }
+          pub decodes-fill : (number s / 2 ^ e % 2 ^ 64 ≡ 0 → ⊥) → Decodes P s n d (Refused (atValue n (because Table.fill))) new
+          decodes-fill z = decodes-refused _ (ended-fill P s n h0 hs hw e he b l z)
 
           pub decodes-good : number s / 2 ^ e % 2 ^ 64 ≡ 0 → Decodes P s n d (Start n) new
           unfolding answered
@@ -179,12 +189,12 @@ module _ (P : ℕ) (s : List ℕ) (n : ℕ) (d : List ℕ) where
 
 -- ---- where a value comes, what held
 
-pub ending-ok : {A : Type 0} (s : List ℕ) (e : ℕ) (x : Out A) (a : A) → endRules s e x ≡ ok a → (whole e ≡ length s) × (number s < 2 ^ e) × (x ≡ ok a)
+pub ending-ok : {A : Type 0} (s : List ℕ) (n e : ℕ) (x : Out A) (a : A) → endRules s n e x ≡ ok a → (length s ≤ whole e) × (number s < 2 ^ e) × (x ≡ ok a)
 unfolding endRules
-ending-ok s e x a h =
-    let p = need-ok _ _ _ _ h in
+ending-ok s n e x a h =
+    let p = need-ok (leb (length s) (whole e)) _ _ _ h in
     let q = need-ok _ _ _ _ (p .1) in
-    (eqb-true _ _ (p .0), ltb-true _ _ (q .0), q .1)
+    (leb-true (length s) (whole e) (p .0), ltb-true _ _ (q .0), q .1)
 
 -- the bytes from which n > 0 values were decoded
 pub record Opened (P : ℕ) (s : List ℕ) (n : ℕ) (l : List ℕ) : Type 0 where
@@ -199,13 +209,15 @@ unfolding decodeOf someOf
 some-ok P s n l h0 h =
     let p = need-ok (leb 1 (length s)) _ _ l (simp (ne-eqb _ _ h0) at h) in
     let q = need-ok _ _ _ _ (p .1) in
-    let r = ending-ok s (endOf P s n) (ok (saidBy P s n)) l (q .1) in
-    record { some = leb-true _ _ (p .0); narrow = leb-true _ _ (q .0); whole-way = r .0; zero-fill = r .1; list = ok-inj (r .2) }
+    let t = need-ok (leb (endOf P s n) (8 * length s)) _ _ _ (q .1) in
+    let r = ending-ok s n (endOf P s n) (ok (saidBy P s n)) l (t .1) in
+    let whole-way : whole (endOf P s n) ≡ length s = omega (arith, r .0, leb-true (endOf P s n) (8 * length s) (t .0)) in
+    record { some = leb-true _ _ (p .0); narrow = leb-true _ _ (q .0); whole-way = whole-way; zero-fill = r .1; list = ok-inj (r .2) }
 
 pub none-ok : (P : ℕ) (s : List ℕ) (n : ℕ) (l : List ℕ) → n ≡ 0 → decodeOf P s n ≡ ok l → (length s ≡ 0) × (l ≡ [])
 none-ok P s n l e h =
-    let r = ending-ok s 0 (ok []) l (sym (decode-zero P s n e) ∙ h) in
-    (sym (r .0), sym (ok-inj (r .2)))
+    let r = ending-ok s 0 0 (ok []) l (sym (decode-zero P s n e) ∙ h) in
+    (omega (arith, r .0), sym (ok-inj (r .2)))
 
 -- the scratch then holds the values
 pub scratch-ok : (P : ℕ) (s : List ℕ) (n : ℕ) (d l : List ℕ) → decodeOf P s n ≡ ok l → (length l ≡ n) × (scratchOf P s n d ≡ l ++ drop n d)

@@ -88,9 +88,9 @@ module _ (P n v : ℕ) (vs : List ℕ) (fs : List Fld) (hn : n ≤ P) (hP : P < 
   decoded : decodeOf P s (suc (length vs)) ≡ ok (v ∷ vs)
   decoded =
       let w : getD s 0 0 ≤ P = rw width-s hn in
-      decode-ending P s (suc (length vs)) (λ q. omega arith) (λ q. omega (arith, length-s, bits-c)) w
-      ∙ ap₂ (λ (e : ℕ) (l : List ℕ). endRules s e (ok l)) ends said
-      ∙ ending-good s (bits (columnWith P n v fs)) (ok (v ∷ vs)) (sym length-s) (rw number-s c-lt)
+      decode-ending P s (suc (length vs)) (λ q. omega arith) (λ q. omega (arith, length-s, bits-c)) w (omega (arith, ends, length-s))
+      ∙ ap₂ (λ (e : ℕ) (l : List ℕ). endRules s (suc (length vs)) e (ok l)) ends said
+      ∙ ending-good s (suc (length vs)) (bits (columnWith P n v fs)) (ok (v ∷ vs)) (omega (arith, length-s)) (rw number-s c-lt)
 
 -- ---- what is a column of a list is decoded as that list
 

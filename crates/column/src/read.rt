@@ -7,7 +7,9 @@ ghost use Rattle.answer.specs.Limits.{mostVertices};
 ghost use Rattle.answer.specs.Outcome.{Fills};
 ghost use Rattle.le.specs.Number.{number, field};
 ghost use Rattle.column.specs.Read.{saidBy, endOf, decodeOf, readOf, Decodes};
+use crate::held::misfit;
 use crate::refused;
+use crate::refused_at;
 use crate::walk::fill;
 use answer::Filled;
 use answer::limits::MOST_VERTICES;
@@ -33,11 +35,12 @@ pub fn decode(s: &[u8], n: usize, out: &mut [u64]) -> Filled
         return refused(answer::table::WIDTH);
     }
     let e = fill(s, n, w, out);
-    if (e + 7) / 8 != len {
-        return refused(answer::table::BITS);
+    let took = (e + 7) / 8;
+    if took != len {
+        return Filled::Refused(misfit(s, n, w, took));
     }
     if le::bits::window_in_last_byte(s, e) != 0 {
-        return refused(answer::table::FILL);
+        return refused_at(answer::table::FILL, n);
     }
     Filled::Start(n)
 }
@@ -91,11 +94,12 @@ fn read_pair(s: &[u8], n: usize, out: &mut [u64]) -> Filled
     let a = le::bits::window(s, 8);
     let e = second(s, n, w, a);
     let end = e.next;
-    if (end + 7) / 8 != len {
-        return refused(answer::table::BITS);
+    let took = (end + 7) / 8;
+    if took != len {
+        return Filled::Refused(misfit(s, n, w, took));
     }
     if le::bits::window_in_last_byte(s, end) != 0 {
-        return refused(answer::table::FILL);
+        return refused_at(answer::table::FILL, n);
     }
     out[0] = a;
     if n == 1 {

@@ -5,9 +5,9 @@ use mathlib.Core.List.{List}
 use Prim.Native.Nat.{ℕ, _≤_, _<_}
 use lib.ListN.{length, getD}
 use Rattle.answer.specs.Table as table
-use Rattle.answer.specs.Refusal.{because}
+use Rattle.answer.specs.Refusal.{because, onPage}
 use Rattle.answer.specs.Outcome.{Out, refused, ok, on, inPage}
-use Rattle.answer.proofs.Outcomes.{ok-inj, on-ok, in-page-ok}
+use Rattle.answer.proofs.Outcomes.{ok-inj, on-ok, marked-ok}
 use Rattle.shape.specs.Outline.{Shape}
 use Rattle.frame.specs.Frame.{Frame, frameOf}
 use Rattle.frame.specs.Frame as frame
@@ -75,7 +75,7 @@ seat-row t sh l e =
     let h = t .held .head in
     let b = t .held .body in
     let a = on-ok (inPage (t .page) (contentsOf h b)) _ sh e in
-    let c = contents-contained h b (a .0) (in-page-ok (t .page) (contentsOf h b) (a .0) (a .1)) in
+    let c = contents-contained h b (a .0) (marked-ok (onPage (t .page)) (contentsOf h b) (a .0) (a .1)) in
     let z = ok-inj (sym (listed-shape h b (c .xs) (c .ys) (t .index) (c .parts) l) ∙ ap (shapeAt (t .index)) (c .shapes) ∙ a .2) in
     row-back (rowOf h b (t .index)) (spanOf (countsOf h b) (lensOf h b) (t .index)) (lensOf h b) (c .xs) (c .ys) ∙ ap rowWith z
 

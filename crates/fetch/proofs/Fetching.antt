@@ -7,8 +7,9 @@ use native.Mathlib.Omega.{arith}
 use borrow.Author.Tests.{ltb-true, ltb-false}
 use lib.Dec.{ltb}
 use lib.ListN.{length}
+use Rattle.answer.specs.Refusal.{onPage}
 use Rattle.answer.specs.Outcome.{Out, ok, on, inPage}
-use Rattle.answer.proofs.Outcomes.{ok-inj, on-ok, in-page-ok}
+use Rattle.answer.proofs.Outcomes.{ok-inj, on-ok, marked-ok}
 use Rattle.shape.specs.Outline.{Shape}
 use Rattle.frame.specs.Frame.{Page, Frame, frameOf}
 use Rattle.page.specs.Contents.{contentsOf}
@@ -30,7 +31,7 @@ unfolding pagesOf
 pages-cons k p ps ss e =
     let a = on-ok (inPage k (contentsOf (p .head) (p .body))) _ ss e in
     let b = on-ok (pagesOf (suc k) ps) _ ss (a .2) in
-    (a .0, b .0, in-page-ok k (contentsOf (p .head) (p .body)) (a .0) (a .1), b .1, ok-inj (b .2))
+    (a .0, b .0, marked-ok (onPage k) (contentsOf (p .head) (p .body)) (a .0) (a .1), b .1, ok-inj (b .2))
 
 pages-none : (k : ℕ) (ss : List Shape) → pagesOf k [] ≡ ok ss → ss ≡ []
 unfolding pagesOf

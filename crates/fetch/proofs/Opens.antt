@@ -8,7 +8,7 @@ use lib.ListN.{length}
 use Rattle.answer.specs.Refusal.{onPage}
 use Rattle.answer.specs.declared.Refusal.{Refusal}
 use Rattle.answer.specs.Outcome.{Out, refused, ok, on, inPage}
-use Rattle.answer.proofs.Outcomes.{ok-inj, in-page-refused, in-page-value}
+use Rattle.answer.proofs.Outcomes.{ok-inj, marked-refused, marked-value}
 use Rattle.le.proofs.Runs.{length-numbers}
 use Rattle.types.specs.Parts.{total, partsHold}
 use Rattle.types.proofs.Agreeing.{agree-even}
@@ -59,11 +59,11 @@ module _ (s : List ℕ) (place : ℕ) where
 module _ (t : Seat) where
   pub seat-refused : (w : Refusal) → contentsOf (t .held .head) (t .held .body) ≡ refused w → shapeOf t ≡ refused (onPage (t .page) w)
   unfolding shapeOf
-  seat-refused w e = on-refused (inPage (t .page) (contentsOf (t .held .head) (t .held .body))) _ (onPage (t .page) w) (in-page-refused (t .page) w e)
+  seat-refused w e = on-refused (inPage (t .page) (contentsOf (t .held .head) (t .held .body))) _ (onPage (t .page) w) (marked-refused (onPage (t .page)) w e)
 
   pub seat-contents : (here : List Shape) → contentsOf (t .held .head) (t .held .body) ≡ ok here → shapeOf t ≡ shapeAt (t .index) here
   unfolding shapeOf
-  seat-contents here e = on-value (inPage (t .page) (contentsOf (t .held .head) (t .held .body))) _ here (in-page-value (t .page) here e)
+  seat-contents here e = on-value (inPage (t .page) (contentsOf (t .held .head) (t .held .body))) _ here (marked-value (onPage (t .page)) here e)
 
 -- ---- a page's lists, as rule 11 lets them pass
 

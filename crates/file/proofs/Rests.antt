@@ -3,7 +3,7 @@ use Prim.Native.Nat.{ℕ, suc, _-_, _<_}
 use mathlib.Core.Path.{_≡_, sym, ap, _∙_}
 use mathlib.Core.List.{List, [], _∷_, _++_}
 use native.Mathlib.Numerals.{add-one}
-use Rattle.answer.specs.Outcome.{refused, ok, on, inPage}
+use Rattle.answer.specs.Outcome.{refused, ok, on, inPage, marked}
 use Rattle.answer.specs.Rule.{judged, passed}
 use Rattle.answer.specs.declared.Refusal.{Refusal}
 use Rattle.answer.specs.declared.Verdict.the-variants.{Holds, Refused}
@@ -33,7 +33,7 @@ module _ (k : ℕ) (p : Page) (ps : List Page) where
   -- they are read: the rest decides
   pub pages-first : (here : List Shape) → contentsOf (p .head) (p .body) ≡ ok here
       → pagesOf k (p ∷ ps) ≡ on (pagesOf (suc k) ps) (λ rest. ok (here ++ rest))
-  unfolding pagesOf inPage on
+  unfolding pagesOf marked on
   pages-first here e = rw e
 
 -- ---- from a cursor on

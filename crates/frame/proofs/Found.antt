@@ -9,9 +9,9 @@ use borrow.Author.Tests.{ltb-true, eqb-true, eq-eqb}
 use lib.ListN.{length}
 use lib.Dec.{eqb}
 use Rattle.answer.specs.Table.{kind}
-use Rattle.answer.specs.Refusal.{because}
+use Rattle.answer.specs.Refusal.{because, onPage}
 use Rattle.answer.specs.Outcome.{refused, ok}
-use Rattle.answer.proofs.Outcomes.{never, ok-inj, need-ok, on-ok, in-page-value, in-page-ok}
+use Rattle.answer.proofs.Outcomes.{never, ok-inj, need-ok, on-ok, marked-value, marked-ok}
 use Rattle.answer.proofs.Both.{both-l, both-r, no-both}
 use Rattle.block.specs.declared.Block.{Block}
 use Rattle.le.specs.Number.{numberAt}
@@ -151,7 +151,7 @@ module _ (s : List ℕ) (c : Cursor) where
   pub step-is : (t : NextBlock) → nextOf s c ≡ ok t → ((p : PageAt) × (t ≡ page p) × Paged s c p) ⊎ ((t ≡ end) × Ended s c)
   unfolding nextOf
   step-is t e =
-      let a = on-ok _ _ t (in-page-ok (c .pages) _ t e) in
+      let a = on-ok _ _ t (marked-ok (onPage (c .pages)) _ t e) in
       kind-step-is (a .0) t (block-is s (c .at) (a .0) (a .1)) (a .2)
 
   pub page-is : (p : PageAt) → nextOf s c ≡ ok (page p) → Paged s c p
@@ -173,7 +173,7 @@ module _ (s : List ℕ) (c : Cursor) where
   is-page p k =
       let b : Block = record { kind = 2; body = p .body; len = p .len } in
       step-found s c b (is-block s (c .at) 2 (p .body) (p .len) (k .stands))
-      ∙ in-page-value (c .pages) (page p)
+      ∙ marked-value (onPage (c .pages)) (page p)
       (kind-page s c b refl
       ∙ page-good s c b (k .few) (p .head) (k .headed)
       ∙ ap (λ (n : Cursor). ok (page (record { head = p .head; body = p .body; len = p .len; next = n }))) (sym (k .next)))
@@ -184,7 +184,7 @@ module _ (s : List ℕ) (c : Cursor) where
       let ten : c .at + 6 + 4 ≡ c .at + 10 = omega arith in
       let not-two : (_≡_ {A = ℕ} 3 2 → ⊥) = λ q. omega arith in
       step-found s c b (is-block s (c .at) 3 (c .at + 6) 8 (k .stands))
-      ∙ in-page-value (c .pages) end
+      ∙ marked-value (onPage (c .pages)) end
       (kind-end s c b not-two refl
       ∙ end-good s c b refl (c .pages) (sym (k .pages-at)) refl (c .shapes) (sym (ap (numberAt 4 s) ten ∙ k .shapes-at)) refl (omega (arith, k .last)))
 

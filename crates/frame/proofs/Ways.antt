@@ -10,7 +10,7 @@ use lib.ListN.{length, take, drop}
 use Rattle.answer.specs.declared.Refusal.{Refusal}
 use Rattle.answer.specs.Table.{many, lengths, kind, counts}
 use Rattle.answer.specs.Refusal.{because}
-use Rattle.answer.specs.Outcome.{Out, refused, ok, on, inPage}
+use Rattle.answer.specs.Outcome.{Out, refused, ok, on, inPage, marked}
 use Rattle.answer.specs.Rule.{passed}
 use Rattle.answer.proofs.Outcomes.{never, ok-inj, refused-inj, met, unmet}
 use Rattle.answer.proofs.Rules.{passed-on}
@@ -129,7 +129,7 @@ module _ (s : List ℕ) (c : Cursor) where
 
   -- a refusal's page is the number of page blocks passed before it
   pub step-page : (w : Refusal) → nextOf s c ≡ refused w → w .page ≡ c .pages
-  unfolding nextOf inPage
+  unfolding nextOf marked
   step-page w = go (on (blockAt s (c .at)) (byKind s c))
     where
       go : (x : Out NextBlock) → inPage (c .pages) x ≡ refused w → w .page ≡ c .pages

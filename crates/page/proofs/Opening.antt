@@ -11,7 +11,7 @@ use Rattle.answer.specs.declared.Verdict.the-variants as verdict
 use Rattle.answer.specs.Refusal.{onPage}
 use Rattle.answer.specs.Outcome.{Out, refused, ok, on}
 use Rattle.answer.specs.Rule.{judged, passed}
-use Rattle.answer.proofs.Outcomes.{never, ok-inj, refused-inj, in-page-refused, in-page-value}
+use Rattle.answer.proofs.Outcomes.{never, ok-inj, refused-inj, marked-refused, marked-value}
 use Rattle.answer.proofs.Rules.{refused-passed}
 use Rattle.frame.specs.declared.cursor.Cursor.{Cursor}
 use Rattle.frame.specs.declared.cursor.PageAt.{PageAt}
@@ -99,7 +99,7 @@ module _ (s : List ℕ) (c : Cursor) (counts lens xs ys : List ℕ) (p : PageAt)
       → Opens s c (Refused v) counts lens xs ys
   unfolding saidOpened
   opens-refused w v z j = record {
-    said = said-at (Refused v) (sym (on-refused (contentsIn s (c .pages) p) _ v (in-page-refused (c .pages) w (refused-passed _ w j) ∙ ap refused (sym z))));
+    said = said-at (Refused v) (sym (on-refused (contentsIn s (c .pages) p) _ v (marked-refused (onPage (c .pages)) w (refused-passed _ w j) ∙ ap refused (sym z))));
     lists = λ q f. absurd (let z : _≡_ {A = ℕ} 0 1 = cc in omega arith);
   }
 
@@ -107,7 +107,7 @@ module _ (s : List ℕ) (c : Cursor) (counts lens xs ys : List ℕ) (p : PageAt)
   pub opens-page : InScratch s p counts lens xs ys → Opens s c (Page p) counts lens xs ys
   unfolding saidOpened
   opens-page y = record {
-    said = said-at (Page p) (sym (on-value (contentsIn s (c .pages) p) _ _ (in-page-value (c .pages) _ (y .shapes))));
+    said = said-at (Page p) (sym (on-value (contentsIn s (c .pages) p) _ _ (marked-value (onPage (c .pages)) _ (y .shapes))));
     lists = λ q f. (let z : p ≡ q = cc in rw (← z) (e, y));
   }
 

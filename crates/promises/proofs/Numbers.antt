@@ -51,7 +51,7 @@ use Rattle.search.specs.Listed.{listed}
 use Rattle.promises.specs.Numbers as numbers
 use Rattle.promises.specs.Numbers.{by, plain, Gives, Plain}
 use Rattle.promises.specs.Pages.{NoPage}
-use Rattle.promises.proofs.Refusals.{ok-gives, refused-gives, need-gives, on-gives, in-page-gives, cond-gives, rule-gives, so-gives}
+use Rattle.promises.proofs.Refusals.{ok-gives, refused-gives, need-gives, on-gives, marked-gives, cond-gives, rule-gives, so-gives}
 
 -- ---- among more numbers all the more
 

@@ -11,9 +11,9 @@ use lib.Dec.{ltb}
 use lib.ListN.{length, take, drop}
 use lib.Seq.{drop-nil, drop-drop}
 use Rattle.answer.specs.declared.Refusal.{Refusal}
-use Rattle.answer.specs.Refusal.{because}
+use Rattle.answer.specs.Refusal.{because, onPage}
 use Rattle.answer.specs.Outcome.{refused, ok, inPage}
-use Rattle.answer.proofs.Outcomes.{never, ok-inj, on-ok, in-page-ok}
+use Rattle.answer.proofs.Outcomes.{never, ok-inj, on-ok, marked-ok}
 use Rattle.extent.specs.Boxes.{patterns}
 use Rattle.query.specs.declared.ask.Ask.{Ask}
 use Rattle.query.specs.Ask.{opens}
@@ -27,7 +27,7 @@ use Rattle.place.proofs.Seeking.{seek-none, seek-here, seek-on}
 use Rattle.promises.specs.Refusing.{Refuses}
 use Rattle.promises.specs.Numbers as numbers
 use Rattle.promises.specs.Pages.{IsPage, Passes, Before, InContents, everyPage, metPages, PlacePage}
-use Rattle.promises.proofs.Refusals.{ok-gives, after-gives, on-gives, in-page-gives, test-gives, so-gives}
+use Rattle.promises.proofs.Refusals.{ok-gives, after-gives, on-gives, marked-gives, test-gives, so-gives}
 use Rattle.promises.proofs.Numbers.{plain-no-page, contents-give}
 
 -- a refusal with page 0 is its number alone
@@ -85,7 +85,7 @@ pages-refused all (p ∷ ps) k d b =
     after-gives _ _ _ (here-refused (everyPage all) all k p ps d tt b) (λ here e.
     on-gives _ _ _
     (pages-refused all ps (suc k) (next-pages all k p ps d)
-    (before-more (everyPage all) all k p ps d (λ o. record { shapes = here; contents = in-page-ok k _ here e }) b))
+    (before-more (everyPage all) all k p ps d (λ o. record { shapes = here; contents = marked-ok (onPage k) _ here e }) b))
     (λ rest. ok-gives _ _))
 
 -- ---- each page whose box meets the query, in order
@@ -103,7 +103,7 @@ module _ (a : Ask) (all : List Page) where
   page-passes : (k n : ℕ) (p : Page) (here : List ℕ) → pageHits a k n p ≡ ok here → metPages a all k p → Passes p
   page-passes k n p here e o =
       let t = on-ok (inPage k (contentsOf (p .head) (p .body))) _ here (sym (page-open a k n p o) ∙ e) in
-      record { shapes = t .0; contents = in-page-ok k _ (t .0) (t .1) }
+      record { shapes = t .0; contents = marked-ok (onPage k) _ (t .0) (t .1) }
 
   pub met-refused : (ps : List Page) (k n : ℕ) → drop k all ≡ ps → Before (metPages a all) all k → Refuses (InContents (metPages a all) all) (metOf a k n ps)
   unfolding metOf

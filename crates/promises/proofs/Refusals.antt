@@ -4,7 +4,7 @@ use mathlib.Core.Path.{_≡_, refl, sym, subst}
 use mathlib.Core.Bool.{Bool, true, false, cond}
 use Rattle.answer.specs.declared.Refusal.{Refusal}
 use Rattle.answer.specs.Refusal.{because, onPage}
-use Rattle.answer.specs.Outcome.{Out, refused, ok, need, on, inPage}
+use Rattle.answer.specs.Outcome.{Out, refused, ok, need, on, inPage, marked}
 use Rattle.answer.specs.Rule.{rule}
 use Rattle.answer.proofs.Outcomes.{never, refused-inj}
 use Rattle.promises.specs.Refusing.{Refuses}
@@ -32,7 +32,7 @@ on-gives Such o f g h = after-gives Such o f g (λ a e. h a)
 
 -- what is refused in a page has that page
 pub in-page-gives : {A : Type 0} (Such : Refusal → Type 0) (k : ℕ) (o : Out A) → Refuses (λ w. Such (onPage k w)) o → Refuses Such (inPage k o)
-unfolding inPage
+unfolding marked
 in-page-gives Such k (refused w) g = refused-gives Such (onPage k w) (g .such w refl)
 in-page-gives Such k (ok a) g = ok-gives Such a
 

@@ -1,7 +1,7 @@
 -- Nothing is vacuous: by computation, the full check's definition accepts the sample file of document 01, and the search's definition finds in it what
 -- the document says. Assumes nothing.
 use mathlib.Core.Path.{_≡_, refl}
-use Rattle.answer.specs.Outcome.{ok, need, on, inPage}
+use Rattle.answer.specs.Outcome.{ok, need, on, marked}
 use Rattle.answer.specs.Rule.{rule}
 use Rattle.le.specs.Number.{number, numberAt, numbersEach, bytesOf, runOf}
 use Rattle.block.specs.Block.{presentAt, blockAt, blockHead}
@@ -37,15 +37,15 @@ use Rattle.promises.specs.Sample.{sample, Found, Listable}
 
 -- two pages, four shapes
 pub sample-sound : checkOf sample ≡ ok (record { pages = 2; shapes = 4; first = firstCursor 1 })
-unfolding need on inPage rule number numberAt numbersEach presentAt blockAt unzigzag sizeAt valueAt after values saidBy endOf endRules someOf decodeOf rank finite atMost below sameValue fourFinite inOrder goodForm sameBox lesser greater leastOf greatestOf boxOf allOf typeRow total fits lengthsFit rowAgrees shapeAgrees partsAgree partsHold partsRule ofBits toBits ofFields onGrid wholeOf turnOf clockwise zeroTurn outlinesOf partsOf registered finiteRule endsMeet closedRing ringsClosed ringRule onGridShape gridRule ringTurn turnNotZero firstClockwise ringsTurned turnsHold turnRule boxHolds boxRule each layoutOf countsOk boundsAt allZero boxOk sizedHead page.headOf asFirst firstOf asPage asEnd byKind nextOf walk frameOf frame.shapesOf registersOf typesOf countsOf lensOf xPart yPart verticesOf outlineRules contentsOf pagesOf checkOf
+unfolding need on marked rule number numberAt numbersEach presentAt blockAt unzigzag sizeAt valueAt after values saidBy endOf endRules someOf decodeOf rank finite atMost below sameValue fourFinite inOrder goodForm sameBox lesser greater leastOf greatestOf boxOf allOf typeRow total fits lengthsFit rowAgrees shapeAgrees partsAgree partsHold partsRule ofBits toBits ofFields onGrid wholeOf turnOf clockwise zeroTurn outlinesOf partsOf registered finiteRule endsMeet closedRing ringsClosed ringRule onGridShape gridRule ringTurn turnNotZero firstClockwise ringsTurned turnsHold turnRule boxHolds boxRule each layoutOf countsOk boundsAt allZero boxOk sizedHead page.headOf asFirst firstOf asPage asEnd byKind nextOf walk frameOf frame.shapesOf registersOf typesOf countsOf lensOf xPart yPart verticesOf outlineRules contentsOf pagesOf checkOf
 sample-sound = refl
 
 -- what the document says is found in it
 pub sample-found : Found
-unfolding need on inPage rule number numberAt numbersEach presentAt blockAt unzigzag sizeAt valueAt after values saidBy endOf endRules someOf decodeOf rank finite atMost below sameValue fourFinite inOrder goodForm sameBox lesser greater leastOf greatestOf boxOf allOf typeRow total fits lengthsFit rowAgrees shapeAgrees partsAgree partsHold partsRule ofBits toBits ofFields onGrid wholeOf turnOf clockwise zeroTurn outlinesOf partsOf registered finiteRule endsMeet closedRing ringsClosed ringRule onGridShape gridRule ringTurn turnNotZero firstClockwise ringsTurned turnsHold turnRule boxHolds boxRule each layoutOf countsOk boundsAt allZero boxOk sizedHead page.headOf asFirst firstOf asPage asEnd byKind nextOf walk frameOf frame.shapesOf registersOf typesOf countsOf lensOf xPart yPart verticesOf outlineRules contentsOf runOf bytesOf blockHead meets instead bodyLen lenOf blockLen spotAsked windowAsked asked askOf goodQuery reachOf stored inWindow touches hit opens placesOf hitsFrom pageHits metOf metIn hitsOf searchOf
+unfolding need on marked rule number numberAt numbersEach presentAt blockAt unzigzag sizeAt valueAt after values saidBy endOf endRules someOf decodeOf rank finite atMost below sameValue fourFinite inOrder goodForm sameBox lesser greater leastOf greatestOf boxOf allOf typeRow total fits lengthsFit rowAgrees shapeAgrees partsAgree partsHold partsRule ofBits toBits ofFields onGrid wholeOf turnOf clockwise zeroTurn outlinesOf partsOf registered finiteRule endsMeet closedRing ringsClosed ringRule onGridShape gridRule ringTurn turnNotZero firstClockwise ringsTurned turnsHold turnRule boxHolds boxRule each layoutOf countsOk boundsAt allZero boxOk sizedHead page.headOf asFirst firstOf asPage asEnd byKind nextOf walk frameOf frame.shapesOf registersOf typesOf countsOf lensOf xPart yPart verticesOf outlineRules contentsOf runOf bytesOf blockHead meets instead bodyLen lenOf blockLen spotAsked windowAsked asked askOf goodQuery reachOf stored inWindow touches hit opens placesOf hitsFrom pageHits metOf metIn hitsOf searchOf
 sample-found = (refl, refl, refl, refl, refl)
 
 -- and what the listing program goes by
 pub sample-listable : Listable
-unfolding need on inPage rule number numberAt numbersEach presentAt blockAt unzigzag sizeAt valueAt after values saidBy endOf endRules someOf decodeOf rank finite atMost below sameValue fourFinite inOrder goodForm sameBox lesser greater leastOf greatestOf boxOf allOf typeRow total fits lengthsFit rowAgrees shapeAgrees partsAgree partsHold partsRule ofBits toBits ofFields onGrid wholeOf turnOf clockwise zeroTurn outlinesOf partsOf registered finiteRule endsMeet closedRing ringsClosed ringRule onGridShape gridRule ringTurn turnNotZero firstClockwise ringsTurned turnsHold turnRule boxHolds boxRule each layoutOf countsOk boundsAt allZero boxOk sizedHead page.headOf asFirst firstOf asPage asEnd byKind nextOf walk frameOf frame.shapesOf registersOf typesOf countsOf lensOf xPart yPart verticesOf outlineRules contentsOf runOf bytesOf blockHead meets instead bodyLen lenOf blockLen spotAsked windowAsked asked askOf goodQuery reachOf stored inWindow touches hit opens placesOf hitsFrom pageHits metOf metIn hitsOf searchOf seekIn rowOf rowsAt rowsIn
+unfolding need on marked rule number numberAt numbersEach presentAt blockAt unzigzag sizeAt valueAt after values saidBy endOf endRules someOf decodeOf rank finite atMost below sameValue fourFinite inOrder goodForm sameBox lesser greater leastOf greatestOf boxOf allOf typeRow total fits lengthsFit rowAgrees shapeAgrees partsAgree partsHold partsRule ofBits toBits ofFields onGrid wholeOf turnOf clockwise zeroTurn outlinesOf partsOf registered finiteRule endsMeet closedRing ringsClosed ringRule onGridShape gridRule ringTurn turnNotZero firstClockwise ringsTurned turnsHold turnRule boxHolds boxRule each layoutOf countsOk boundsAt allZero boxOk sizedHead page.headOf asFirst firstOf asPage asEnd byKind nextOf walk frameOf frame.shapesOf registersOf typesOf countsOf lensOf xPart yPart verticesOf outlineRules contentsOf runOf bytesOf blockHead meets instead bodyLen lenOf blockLen spotAsked windowAsked asked askOf goodQuery reachOf stored inWindow touches hit opens placesOf hitsFrom pageHits metOf metIn hitsOf searchOf seekIn rowOf rowsAt rowsIn
 sample-listable = (refl, refl, refl)

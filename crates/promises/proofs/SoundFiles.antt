@@ -6,8 +6,9 @@ use native.Mathlib.Nat.{le-refl}
 use native.Mathlib.Omega.{arith}
 use lib.ListN.{length}
 use Rattle.answer.specs.Table as table
-use Rattle.answer.specs.Outcome.{ok, inPage}
-use Rattle.answer.proofs.Outcomes.{ok-inj, on-ok, in-page-ok}
+use Rattle.answer.specs.Refusal.{onPage}
+use Rattle.answer.specs.Outcome.{ok, inPage, marked}
+use Rattle.answer.proofs.Outcomes.{ok-inj, on-ok, marked-ok}
 use Rattle.answer.proofs.Rules.{rule-holds, rule-ok}
 use Rattle.answer.proofs.Both.{both}
 use Rattle.le.specs.Number.{bytesOf, Bytes}
@@ -143,13 +144,13 @@ sound-pages k (more {p = p} {ps = ps} says rest) (sound.more {here = here} {rest
     ∙ on-value (pagesOf (suc k) ps) _ others (sound-pages (suc k) rest pages)
 
 pub pages-sound : (k : ℕ) {ps : List Page} (shapes : List Shape) → AllSay 1 ps → Bytes (pageBlocks ps) → pagesOf k ps ≡ ok shapes → SoundPages ps shapes
-unfolding pagesOf pageBlocks blockOf inPage
+unfolding pagesOf pageBlocks blockOf marked
 pages-sound k shapes none y e = subst (SoundPages []) (ok-inj e) sound.none
 pages-sound k shapes (more {p = p} {ps = ps} says rest) y e =
     let own : Bytes (p .body) = bytes-right (block.blockHead (length (p .body)) 2) (p .body) (bytes-left (blockOf 2 (p .body)) (pageBlocks ps) y) in
     let here = on-ok (inPage k (contentsOf (p .head) (p .body))) _ shapes e in
     let others = on-ok (pagesOf (suc k) ps) _ shapes (here .2) in
-    let contents : contentsOf (p .head) (p .body) ≡ ok (here .0) = in-page-ok k (contentsOf (p .head) (p .body)) (here .0) (here .1) in
+    let contents : contentsOf (p .head) (p .body) ≡ ok (here .0) = marked-ok (onPage k) (contentsOf (p .head) (p .body)) (here .0) (here .1) in
     subst (SoundPages (p ∷ ps)) (ok-inj (others .2))
     (sound.more
     (page-sound (p .head) (p .body) (here .0) (few-in p (says .headed)) (x-bytes (p .head) (p .body) own) (y-bytes (p .head) (p .body) own) contents)

@@ -8,8 +8,9 @@ use mathlib.Core.List.{List, [], _∷_}
 use native.Mathlib.Nat.{zero-add}
 use native.Mathlib.Omega.{arith}
 use lib.ListN.{length, length-append, drop}
+use Rattle.answer.specs.Refusal.{onPage}
 use Rattle.answer.specs.Outcome.{ok, inPage}
-use Rattle.answer.proofs.Outcomes.{ok-inj, on-ok, in-page-ok}
+use Rattle.answer.proofs.Outcomes.{ok-inj, on-ok, marked-ok}
 use Rattle.answer.proofs.Both.{not-true}
 use Rattle.query.specs.declared.ask.Ask.{Ask}
 use Rattle.query.specs.declared.ask.Query.the-variants.{Everything}
@@ -39,7 +40,7 @@ pages-many [] k ss e = ap length (sym (ok-inj e))
 pages-many (p ∷ ps) k ss e =
     let x = on-ok (inPage k (contentsOf (p .head) (p .body))) _ ss e in
     let y = on-ok (pagesOf (suc k) ps) _ ss (x .2) in
-    let here = contents-long (p .head) (p .body) (x .0) (in-page-ok k (contentsOf (p .head) (p .body)) (x .0) (x .1)) in
+    let here = contents-long (p .head) (p .body) (x .0) (marked-ok (onPage k) (contentsOf (p .head) (p .body)) (x .0) (x .1)) in
     let rest = pages-many ps (suc k) (y .0) (y .1) in
     ap length (sym (ok-inj (y .2))) ∙ length-append (x .0) (y .0) ∙ ap₂ (λ (m n : ℕ). m + n) here rest
 

@@ -8,10 +8,10 @@ use native.Mathlib.Omega.{arith}
 use lib.Dec.{leb}
 use lib.ListN.{length, length-map}
 use Rattle.answer.specs.Table as table
-use Rattle.answer.specs.Refusal.{because}
+use Rattle.answer.specs.Refusal.{because, onPage}
 use Rattle.answer.specs.Outcome.{ok, inPage}
 use Rattle.answer.specs.Rule.{rule}
-use Rattle.answer.proofs.Outcomes.{ok-inj, need-ok, on-ok, in-page-ok}
+use Rattle.answer.proofs.Outcomes.{ok-inj, need-ok, on-ok, marked-ok}
 use Rattle.answer.proofs.Rules.{rule-holds}
 use Rattle.extent.specs.Boxes.{patterns}
 use Rattle.query.specs.declared.ask.Ask.{Ask}
@@ -61,7 +61,7 @@ page-complete a k n p ss e = go (opens a (p .head .v) (patterns (p .head .stored
   where
     go : (t : Bool) → opens a (p .head .v) (patterns (p .head .stored)) ≡ t → pageHits a k n p ≡ ok (hitsFrom a n ss)
     go true q = page-open a k n p q ∙ on-value (inPage k (contentsOf (p .head) (p .body))) _ ss e
-    go false q = page-unopened a k n p q ∙ ap ok (sym (closed-none a n (p .head) (p .body) ss (in-page-ok k (contentsOf (p .head) (p .body)) ss e) q))
+    go false q = page-unopened a k n p q ∙ ap ok (sym (closed-none a n (p .head) (p .body) ss (marked-ok (onPage k) (contentsOf (p .head) (p .body)) ss e) q))
 
 -- ---- the pages
 
@@ -73,7 +73,7 @@ met-complete (p ∷ ps) a k n ss e =
     let y = on-ok (pagesOf (suc k) ps) _ ss (x .2) in
     let here : List Shape = x .0 in
     let rest : List Shape = y .0 in
-    let g : length here ≡ p .head .g = contents-long (p .head) (p .body) here (in-page-ok k (contentsOf (p .head) (p .body)) here (x .1)) in
+    let g : length here ≡ p .head .g = contents-long (p .head) (p .body) here (marked-ok (onPage k) (contentsOf (p .head) (p .body)) here (x .1)) in
     met-page a k n p ps (hitsFrom a n here) (page-complete a k n p here (x .1))
     ∙ on-value (metOf a (suc k) (n + p .head .g) ps) _ (hitsFrom a (n + p .head .g) rest) (met-complete ps a (suc k) (n + p .head .g) rest (y .1))
     ∙ ap ok (ap (λ (m : ℕ). hitsFrom a n here ++ hitsFrom a (n + m) rest) (sym g) ∙ sym (hits-append a n here rest) ∙ ap (hitsFrom a n) (ok-inj (y .2)))

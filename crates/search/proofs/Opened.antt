@@ -7,7 +7,7 @@ use lib.ListN.{length}
 use Rattle.answer.specs.declared.Refusal.{Refusal}
 use Rattle.answer.specs.Refusal.{onPage}
 use Rattle.answer.specs.Outcome.{Out, refused, ok, on, inPage}
-use Rattle.answer.proofs.Outcomes.{never, ok-inj, on-ok, in-page-refused, in-page-value, in-page-ok}
+use Rattle.answer.proofs.Outcomes.{never, ok-inj, on-ok, marked-refused, marked-value, marked-ok}
 use Rattle.answer.specs.Rule.{judged, passed}
 use Rattle.answer.specs.declared.Verdict.the-variants as verdict
 use Rattle.answer.proofs.Rules.{refused-passed}
@@ -88,7 +88,7 @@ module _ (a : Ask) (k n : ℕ) (p : Page) where
       go false q = subst (Ascending (n + p .head .g) n) (ok-inj (sym (page-unopened q) ∙ e)) none
       go true q =
           let o = on-ok (inPage k (contentsOf h (p .body))) _ l (sym (page-open q) ∙ e) in
-          let c = contents-contained h (p .body) (o .0) (in-page-ok k (contentsOf h (p .body)) (o .0) (o .1)) in
+          let c = contents-contained h (p .body) (o .0) (marked-ok (onPage k) (contentsOf h (p .body)) (o .0) (o .1)) in
           let w : List Outline = outlinesOf (typesOf h (p .body)) (countsOf h (p .body)) (lensOf h (p .body)) (c .xs) (c .ys) in
           let z : placesOf a n w ≡ l = sym (shapes-hits h (p .body) (c .xs) (c .ys) (c .parts) a n) ∙ ap (hitsFrom a n) (c .shapes) ∙ ok-inj (o .2) in
           let g : n + length w ≡ n + h .g = ap (λ (j : ℕ). n + j) (outlines-long h (p .body) (c .xs) (c .ys) (c .parts)) in
@@ -107,7 +107,7 @@ module _ (h : Head) (b counts lens xs ys : List ℕ) (y : Loaded h b counts lens
   contents-met a k n {d = d} {e = e} r c f =
       let ss = registered (registersOf h b) (outlinesOf (typesOf h b) counts lens xs ys) in
       let z : hitsFrom a n ss ≡ placesOf a n (outlinesOf types counts lens xs ys) = rw (t, y .counts-are, y .lens-are) (shapes-hits h b xs ys (rw (← y .counts-are, ← y .lens-are) (y .parts)) a n) in
-      let o : on (inPage k (contentsOf h b)) (λ here. ok (hitsFrom a n here)) ≡ ok (placesOf a n (outlinesOf types counts lens xs ys)) = on-value (inPage k (contentsOf h b)) _ ss (in-page-value k ss (y .shapes)) ∙ ap ok z in
+      let o : on (inPage k (contentsOf h b)) (λ here. ok (hitsFrom a n here)) ≡ ok (placesOf a n (outlinesOf types counts lens xs ys)) = on-value (inPage k (contentsOf h b)) _ ss (marked-value (onPage k) ss (y .shapes)) ∙ ap ok z in
       meets-ok r (placesOf a n (outlinesOf types counts lens xs ys)) o c
       (subst (λ (m : ℕ). Adds d e n (n + m) (bitsOf (placesOf a n (outlinesOf types counts lens xs ys)))) (loaded-ready h b counts lens xs ys y types t .0) f)
 

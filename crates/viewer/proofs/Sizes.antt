@@ -7,8 +7,9 @@ use native.Mathlib.Omega.{arith}
 use lib.Dec.{ltb}
 use lib.ListN.{length, drop, length-take, length-drop}
 use borrow.Author.Tests.{ltb-true, ltb-false}
+use Rattle.answer.specs.Refusal.{onPage}
 use Rattle.answer.specs.Outcome.{ok, inPage}
-use Rattle.answer.proofs.Outcomes.{never, ok-inj, on-ok, in-page-ok}
+use Rattle.answer.proofs.Outcomes.{never, ok-inj, on-ok, marked-ok}
 use Rattle.shape.specs.Outline.{Shape}
 use Rattle.frame.specs.declared.cursor.Cursor.{Cursor}
 use Rattle.frame.specs.declared.cursor.PageAt.{PageAt}
@@ -66,7 +67,7 @@ held-few t sh l e =
     let h = t .held .head in
     let b = t .held .body in
     let a = on-ok (inPage (t .page) (contentsOf h b)) _ sh e in
-    let c = contents-contained h b (a .0) (in-page-ok (t .page) (contentsOf h b) (a .0) (a .1)) in
+    let c = contents-contained h b (a .0) (marked-ok (onPage (t .page)) (contentsOf h b) (a .0) (a .1)) in
     let z = ok-inj (sym (listed-shape h b (c .xs) (c .ys) (t .index) (c .parts) l) ∙ ap (shapeAt (t .index)) (c .shapes) ∙ a .2) in
     let m = cut-few (rowOf h b (t .index)) (spanOf (countsOf h b) (lensOf h b) (t .index)) (lensOf h b) (c .xs) (c .ys) in
     let v = vertices-long h b (c .xs) (c .ys) (c .vertices) .0 in

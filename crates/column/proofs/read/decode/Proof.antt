@@ -1,7 +1,8 @@
 -- `column::read::decode` gives the outcome of decoding, one law for each return. Assumes nothing.
-use mathlib.Core.Path.{sym, _∙_}
+use mathlib.Core.Path.{sym, ap, _∙_}
+use Prim.Native.Nat.{ℕ, _+_, _/_}
 use native.Mathlib.Omega.{arith}
-use Rattle.column.proofs.Decoding.{decodes-none, decodes-none-bits, decodes-empty, decodes-wide, decodes-bits, decodes-fill, decodes-good}
+use Rattle.column.proofs.Decoding.{decodes-none, decodes-none-bits, decodes-empty, decodes-wide, decodes-refused, decodes-fill, decodes-good}
 use borrow.Author.Needs.{needs}
 use Rattle.column.proofs.read.decode.Statement.{statement}
 use Rattle.column.proofs.read.decode.Tie as tie
@@ -46,11 +47,19 @@ returns-4 c =
 fill-requires : tie.Need-fill-requires
 fill-requires c κs = search needs
 
-add-if5 : tie.Need-add-if5
-add-if5 c = search needs
+add-took : tie.Need-add-took
+add-took c = search needs
 
-refused-requires-4 : tie.Need-refused-requires-4
-refused-requires-4 c κs = search needs
+misfit-requires : tie.Need-misfit-requires
+misfit-requires c κs =
+    let if1 = c .before .before .before .before .before .before .before .before .before .if1 in
+    let if3 = c .before .before .before .before .before .before .before .before .if3 in
+    let wide = c .before .before .before .before .before .before .wide in
+    let if4 = c .before .before .before .before .before .if4 in
+    let fill = c .before .before .before .fill in
+    let st = c .before .before .before .before .before .before .before .before .before .before .before .before in
+    ((wide .ensures, if4 .left, omega (arith, if1 .left), st .pre .0),
+    (omega (arith, if3 .left), ap (λ (e : ℕ). (e + 7) / 8) (fill .ensures .0), omega (arith, fill .ensures .1 .1), c .if5 .taken))
 
 same-length : tie.Need-same-length
 same-length c = search needs
@@ -63,13 +72,13 @@ returns-5 c =
     let if4 = c .before .before .before .before .before .before .if4 in
     let fill = c .before .before .before .before .fill in
     let a = c .before .before .before .before .before .before .before .before .before .before .before .before .before .args in
-    rw (c .refused4 .ensures) (decodes-bits 64 (a .s .now) (a .n) (a .out .now) (if1 .left) (if3 .left) (omega (arith, wide .ensures, if4 .left)) (fill .result) (fill .last .1 .1 .1 .0) (fill .ensures .0) (fill .ensures .1 .0) (c .before .if5 .taken))
+    decodes-refused 64 (a .s .now) (a .n) (a .out .now) (if1 .left) (if3 .left) (omega (arith, wide .ensures, if4 .left)) (fill .result) (fill .last .1 .1 .1 .0) (fill .ensures .0) (fill .ensures .1 .0) (c .misfit .result) (c .misfit .ensures)
 
 window-in-last-byte-requires : tie.Need-window-in-last-byte-requires
 window-in-last-byte-requires c κs = search needs
 
-refused-requires-5 : tie.Need-refused-requires-5
-refused-requires-5 c κs = search needs
+refused-at-requires : tie.Need-refused-at-requires
+refused-at-requires c κs = search needs
 
 same-length-2 : tie.Need-same-length-2
 same-length-2 c = search needs
@@ -83,7 +92,7 @@ returns-6 c =
     let if4 = c .before .before .before .before .before .before .before .before .if4 in
     let fill = c .before .before .before .before .before .before .fill in
     let a = c .before .before .before .before .before .before .before .before .before .before .before .before .before .before .before .args in
-    rw (c .refused5 .ensures) (decodes-fill 64 (a .s .now) (a .n) (a .out .now) (if1 .left) (if3 .left) (omega (arith, wide .ensures, if4 .left)) (fill .result) (fill .last .1 .1 .1 .0) (fill .ensures .0) (fill .ensures .1 .0) (λ i. shared-slice-known .given i .fits) (c .before .before .before .if5 .left) (λ z. c .before .if6 .taken (c .before .before .window-in-last-byte .ensures ∙ z)))
+    rw (c .refused-at .ensures) (decodes-fill 64 (a .s .now) (a .n) (a .out .now) (if1 .left) (if3 .left) (omega (arith, wide .ensures, if4 .left)) (fill .result) (fill .last .1 .1 .1 .0) (fill .ensures .0) (fill .ensures .1 .0) (λ i. shared-slice-known .given i .fits) (c .before .before .before .if5 .left) (λ z. c .before .if6 .taken (c .before .before .window-in-last-byte .ensures ∙ z)))
 
 same-length-3 : tie.Need-same-length-3
 same-length-3 c = search needs
@@ -113,12 +122,12 @@ decode-spec =
     refused-requires-3
     returns-4
     fill-requires
-    add-if5
-    refused-requires-4
+    add-took
+    misfit-requires
     same-length
     returns-5
     window-in-last-byte-requires
-    refused-requires-5
+    refused-at-requires
     same-length-2
     returns-6
     same-length-3

@@ -1,9 +1,10 @@
 -- `block_rules` goes by the kind where the block is present, with the cursor's number of pages in every refusal. Assumes nothing.
 use mathlib.Core.Path.{refl, sym, ap, _∙_}
+use Rattle.answer.specs.Refusal.{onPage}
 use Rattle.answer.specs.Outcome.{inPage}
 use Rattle.answer.specs.Table.{lengths}
 use Rattle.answer.specs.Rule.{passed}
-use Rattle.answer.proofs.Rules.{passed-because, passed-in-page}
+use Rattle.answer.proofs.Rules.{passed-because, passed-marked}
 use Rattle.block.proofs.Blocks.{block-fits}
 use Rattle.frame.proofs.Ways.{step-absent, step-found}
 use borrow.Author.Needs.{needs}
@@ -30,7 +31,7 @@ returns c =
     let k = c .before .before .before .before .before .before .before .args .c .pages in
     c .on-page .ensures
     ∙ ap (inPage k) (c .before .kind-rules .ensures)
-    ∙ sym (passed-in-page k _)
+    ∙ sym (passed-marked (onPage k) _)
     ∙ ap passed (sym (step-found _ _ _ (c .before .before .block-in .ensures)))
 
 because-requires : tie.Need-because-requires
@@ -44,7 +45,7 @@ returns-2 c =
     let k = c .before .before .before .before .before .before .args .c .pages in
     c .on-page2 .ensures
     ∙ ap (inPage k) (passed-because lengths _ (c .before .because .ensures) refl)
-    ∙ sym (passed-in-page k _)
+    ∙ sym (passed-marked (onPage k) _)
     ∙ ap passed (sym (step-absent _ _ (sym (c .before .before .before .present .ensures) ∙ c .before .before .if1 .left)))
 
 pub block-rules-spec : {M : Type 1} → statement M
