@@ -10,7 +10,8 @@ use lib.Dec.{leb, ltb}
 use lib.ListN.{length, getD}
 use borrow.Author.Tests.{le-leb, lt-leb, le-ltb, lt-ltb, eq-eqb, ne-eqb, leb-true, leb-false}
 use Rattle.answer.specs.Table as Table
-use Rattle.answer.specs.Refusal.{because}
+use Rattle.answer.specs.Refusal.{because, atValue}
+use Rattle.answer.specs.declared.Refusal.{Refusal}
 use Rattle.answer.specs.Outcome.{Out, refused, ok, need}
 use Rattle.answer.proofs.Outcomes.{met, unmet}
 use Rattle.le.specs.Number.{number, field}
@@ -21,16 +22,16 @@ use Rattle.column.specs.declared.Position.{Position}
 use Rattle.column.specs.Column.{whole}
 use Rattle.column.specs.Read.{endRules}
 use Rattle.step.specs.declared.Answer.the-variants.{Value, End, Refused}
-use Rattle.step.specs.Step.{ValueOrEnd, value, end, position, firstCall, laterCall, stepOf, answerWith}
+use Rattle.step.specs.Step.{ValueOrEnd, value, end, position, coming, firstCall, laterCall, stepOf, answerWith}
 
 -- whole bytes without a sum that could pass 64 bits
 pub whole-law : (at : ℕ) → at / 8 + (at % 8 + 7) / 8 ≡ whole at
 whole-law at = omega arith
 
 -- a refusal, a value, the end
-pub said-refused : {o : Out ValueOrEnd} (p : Position) (n : ℕ) → o ≡ refused (because n) → Refused (because n) p ≡ answerWith p o
+pub said-refused : {o : Out ValueOrEnd} (p : Position) (w : Refusal) → o ≡ refused w → Refused w p ≡ answerWith p o
 unfolding answerWith
-said-refused p n e = rw e
+said-refused p w e = rw e
 
 pub said-value : {o : Out ValueOrEnd} (p q : Position) (v : ℕ) → o ≡ ok (value v q) → Value v q ≡ answerWith p o
 unfolding answerWith
@@ -43,7 +44,7 @@ said-end p e = rw e
 -- ---- with none given
 
 module _ (P : ℕ) (s : List ℕ) (n : ℕ) where
-  pub first-none : n ≡ 0 → firstCall P s n ≡ endRules s 0 (ok end)
+  pub first-none : n ≡ 0 → firstCall P s n ≡ endRules s 0 0 (ok end)
   unfolding firstCall
   first-none e = simp (eq-eqb _ _ e)
 
@@ -80,33 +81,46 @@ module _ (P : ℕ) (s : List ℕ) (n : ℕ) (p : Position) where
   later-wide h = unmet _ _ (lt-leb _ _ h)
 
   module _ (hw : p .width ≤ P) where
-    pub later-past : 8 * length s < p .at → laterCall P s n p ≡ refused (because Table.bits)
+    pub later-past : 8 * length s < p .at → laterCall P s n p ≡ refused (atValue (coming n (p .given)) (because Table.bits))
     unfolding laterCall
     later-past h = met _ _ (le-leb _ _ hw) ∙ unmet _ _ (lt-leb _ _ h)
 
     module _ (ha : p .at ≤ 8 * length s) where
-      pub later-end : n ≤ p .given → laterCall P s n p ≡ endRules s (p .at) (ok end)
+      pub later-end : n ≤ p .given → laterCall P s n p ≡ endRules s n (p .at) (ok end)
       unfolding laterCall
       later-end h = met _ _ (le-leb _ _ hw) ∙ met _ _ (le-leb _ _ ha) ∙ simp (le-leb _ _ h)
 
       module _ (hg : p .given < n) where
-        going : laterCall P s n p ≡ need (leb next-place (8 * length s)) (because Table.bits) (need (ltb next-place (2 ^ 64)) (because Table.bits) (ok (value next-value (position next-place (p .given + 1) (p .width) next-value))))
+        abbrev lacking : Refusal
+        lacking = atValue (p .given) (because Table.bits)
+
+        going : laterCall P s n p ≡ need (leb next-place (8 * length s)) lacking (need (ltb next-place (2 ^ 64)) lacking (ok (value next-value (position next-place (p .given + 1) (p .width) next-value))))
         unfolding laterCall
         going = met _ _ (le-leb _ _ hw) ∙ met _ _ (le-leb _ _ ha) ∙ simp (lt-leb _ _ hg)
 
-        pub later-short : 8 * length s < next-place → laterCall P s n p ≡ refused (because Table.bits)
+        pub later-short : 8 * length s < next-place → laterCall P s n p ≡ refused lacking
         later-short h = going ∙ unmet _ _ (lt-leb _ _ h)
 
-        pub later-over : 2 ^ 64 ≤ next-place → laterCall P s n p ≡ refused (because Table.bits)
+        pub later-over : 2 ^ 64 ≤ next-place → laterCall P s n p ≡ refused lacking
         later-over h = going ∙ either (leb next-place (8 * length s)) refl
           where
             either : (t : Bool) → leb next-place (8 * length s) ≡ t
-                → need (leb next-place (8 * length s)) (because Table.bits) (need (ltb next-place (2 ^ 64)) (because Table.bits) (ok (value next-value (position next-place (p .given + 1) (p .width) next-value)))) ≡ refused (because Table.bits)
+                → need (leb next-place (8 * length s)) lacking (need (ltb next-place (2 ^ 64)) lacking (ok (value next-value (position next-place (p .given + 1) (p .width) next-value)))) ≡ refused lacking
             either true e = met _ _ e ∙ unmet _ _ (le-ltb _ _ h)
             either false e = unmet _ _ e
 
         pub later-value : next-place ≤ 8 * length s → next-place < 2 ^ 64 → laterCall P s n p ≡ ok (value next-value (position next-place (p .given + 1) (p .width) next-value))
         later-value h l = going ∙ met _ _ (le-leb _ _ h) ∙ met _ _ (lt-ltb _ _ l)
+
+-- ---- the value at which a call stands
+
+pub coming-next : (n given : ℕ) → given < n → given ≡ coming n given
+unfolding coming
+coming-next n given h = simp (lt-ltb given n h)
+
+pub coming-none : (n given : ℕ) → n ≤ given → n ≡ coming n given
+unfolding coming
+coming-none n given h = simp (le-ltb given n h)
 
 -- ---- the call
 

@@ -3,13 +3,13 @@ ghost use mathlib.Core.Path.{_≡_};
 ghost use Prim.Native.Nat.{_+_, _/_, _^_, _≤_};
 ghost use lib.Dec.{leb};
 ghost use Rattle.answer.specs.Limits.{mostVertices};
-ghost use Rattle.answer.specs.Refusal.{because};
+ghost use Rattle.answer.specs.Refusal.{because, atValue};
 ghost use Rattle.answer.specs.Outcome.{ok};
 ghost use Rattle.le.specs.Number.{number};
 ghost use Rattle.entry.specs.Step.{marker};
 ghost use Rattle.entry.specs.Entry.{sizeAt};
 ghost use Rattle.column.specs.Read.{endRules};
-ghost use Rattle.step.specs.Step.{end, firstCall, laterCall, stepOf, answerWith};
+ghost use Rattle.step.specs.Step.{end, coming, firstCall, laterCall, stepOf, answerWith};
 use answer::Refusal;
 use answer::limits::MOST_VERTICES;
 use column::Position;
@@ -28,6 +28,21 @@ fn refused(number: u8, p: Position) -> Answer
     Answer::Refused(Refusal::because(number), p)
 }
 
+// A refusal by its number, met at a value.
+fn refused_at(number: u8, index: usize, p: Position) -> Answer
+    requires { ⌜ index ≤ mostVertices ⌝ }
+    ensures { λ r. ⌜ r ≡ Answer.Refused (atValue index (because number)) p ⌝ }
+{
+    Answer::Refused(Refusal::at_value(number, index), p)
+}
+
+// The value that comes where so many of n were given; n where none does.
+fn coming(n: usize, given: usize) -> usize
+    ensures { λ r. ⌜ (r ≡ coming n given) × (r ≤ n) ⌝ }
+{
+    if given < n { given } else { n }
+}
+
 // The whole bytes that bits up to a place take.
 fn whole_bytes(at: usize) -> usize
     ensures { λ r. ⌜ r ≡ (at + 7) / 8 ⌝ }
@@ -35,15 +50,16 @@ fn whole_bytes(at: usize) -> usize
     at / 8 + (at % 8 + 7) / 8
 }
 
-// The rules of the end, where the entries end at a place.
-fn end_at(s: &[u8], at: usize, p: Position) -> Answer
-    ensures { λ r. ⌜ r ≡ answerWith p (endRules (now (s .entry)) at (ok end)) ⌝ }
+// The rules of the end, where the entries of n values end at a place within the bytes.
+fn end_at(s: &[u8], n: usize, at: usize, p: Position) -> Answer
+    requires { ⌜ n ≤ mostVertices ⌝ }
+    ensures { λ r. ⌜ r ≡ answerWith p (endRules (now (s .entry)) n at (ok end)) ⌝ }
 {
-    if whole_bytes(at) != s.len() {
-        return refused(answer::table::BITS, p);
+    if whole_bytes(at) < s.len() {
+        return refused_at(answer::table::BITS, n, p);
     }
     if le::bits::window(s, at) != 0 {
-        return refused(answer::table::FILL, p);
+        return refused_at(answer::table::FILL, n, p);
     }
     Answer::End(p)
 }
@@ -53,7 +69,7 @@ fn first(s: &[u8], n: usize, p: Position) -> Answer
     ensures { λ r. ⌜ r ≡ answerWith p (firstCall 64 (now (s .entry)) n) ⌝ }
 {
     if n == 0 {
-        return end_at(s, 0, p);
+        return end_at(s, 0, 0, p);
     }
     let len = s.len();
     if len == 0 {
@@ -106,19 +122,19 @@ fn later(s: &[u8], n: usize, p: Position) -> Answer
     }
     let len = s.len();
     if len < whole_bytes(at) {
-        return refused(answer::table::BITS, p);
+        return refused_at(answer::table::BITS, coming(n, p.given), p);
     }
     if n <= p.given {
-        return end_at(s, at, p);
+        return end_at(s, n, at, p);
     }
     let m = entry::marker(w);
     if runs_over(s, at, w, m) {
-        return refused(answer::table::BITS, p);
+        return refused_at(answer::table::BITS, p.given, p);
     }
     let e = entry::entry_at(s, at, w, m, p.last);
     let next = e.next;
     if len < whole_bytes(next) {
-        return refused(answer::table::BITS, p);
+        return refused_at(answer::table::BITS, p.given, p);
     }
     Answer::Value(
         e.value,

@@ -3,6 +3,7 @@ use mathlib.Core.Path.{sym, ap, ap₂, _∙_}
 use Prim.Native.Nat.{ℕ}
 use native.Mathlib.Omega.{arith}
 use Rattle.answer.specs.Table as Table
+use Rattle.answer.specs.Refusal.{because}
 use Rattle.step.specs.Step.{answerWith, position}
 use Rattle.step.specs.declared.Answer.the-variants.{Value}
 use Rattle.step.proofs.Calls.{said-refused, said-value, first-none, first-empty, first-wide, first-short, first-value}
@@ -24,7 +25,7 @@ refused-requires c κs = search needs
 returns-2 : tie.Need-returns-2
 returns-2 c =
     let a = c .before .before .before .before .args in
-    c .refused .ensures ∙ said-refused (a .p) Table.bits (first-empty 64 (a .s .now) (a .n) (c .before .before .if1 .left) (c .before .if2 .taken))
+    c .refused .ensures ∙ said-refused (a .p) (because Table.bits) (first-empty 64 (a .s .now) (a .n) (c .before .before .if1 .left) (c .before .if2 .taken))
 
 shared-slice-read-wide : tie.Need-shared-slice-read-wide
 shared-slice-read-wide c = search needs
@@ -40,7 +41,7 @@ returns-3 c =
     let if1 = c .before .before .before .before .before .if1 in
     let if2 = c .before .before .before .before .if2 in
     let a = c .before .before .before .before .before .before .before .args in
-    c .refused2 .ensures ∙ said-refused (a .p) Table.width (first-wide 64 (a .s .now) (a .n) (if1 .left) (if2 .left) (omega (arith, c .before .before .wide .ensures, c .before .if3 .taken)))
+    c .refused2 .ensures ∙ said-refused (a .p) (because Table.width) (first-wide 64 (a .s .now) (a .n) (if1 .left) (if2 .left) (omega (arith, c .before .before .wide .ensures, c .before .if3 .taken)))
 
 refused-requires-3 : tie.Need-refused-requires-3
 refused-requires-3 c κs = search needs
@@ -50,7 +51,7 @@ returns-4 c =
     let if1 = c .before .before .before .before .before .before .if1 in
     let if2 = c .before .before .before .before .before .if2 in
     let a = c .before .before .before .before .before .before .before .before .args in
-    c .refused3 .ensures ∙ said-refused (a .p) Table.bits
+    c .refused3 .ensures ∙ said-refused (a .p) (because Table.bits)
     (first-short 64 (a .s .now) (a .n) (if1 .left) (if2 .left) (omega (arith, c .before .before .before .wide .ensures, c .before .before .if3 .left)) (omega (arith, c .before .if4 .taken)))
 
 window-requires : tie.Need-window-requires

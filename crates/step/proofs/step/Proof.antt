@@ -1,6 +1,7 @@
 -- `step::step` gives the call's answer: 3, the first value's, or a later one's. Assumes nothing.
 use mathlib.Core.Path.{sym, ap, _∙_}
 use Rattle.answer.specs.Table as Table
+use Rattle.answer.specs.Refusal.{because}
 use Rattle.step.specs.Step.{answerWith}
 use Rattle.step.proofs.Calls.{said-refused, next-many, next-first, next-later}
 use borrow.Author.Needs.{needs}
@@ -13,7 +14,7 @@ refused-requires c κs = search needs
 returns : tie.Need-returns
 returns c =
     let a = c .before .before .before .args in
-    c .refused .ensures ∙ said-refused (a .p) Table.many (next-many 64 (a .s .now) (a .n) (a .p) (c .before .if1 .taken))
+    c .refused .ensures ∙ said-refused (a .p) (because Table.many) (next-many 64 (a .s .now) (a .n) (a .p) (c .before .if1 .taken))
 
 first-requires : tie.Need-first-requires
 first-requires c κs = search needs
