@@ -3,7 +3,8 @@
 use Prim.Native.Nat.{ℕ, _+_}
 use mathlib.Core.List.{List}
 use lib.ListN.{take, drop}
-use Rattle.answer.specs.Outcome.{Out, ok, on}
+use Rattle.answer.specs.Axis as Axis
+use Rattle.answer.specs.Outcome.{Out, ok, on, inColumn}
 use Rattle.le.specs.Number.{numbersEach, numbersAt}
 use Rattle.column.specs.Read.{decodeOf}
 use Rattle.extent.specs.Boxes.{patterns}
@@ -43,11 +44,15 @@ pub record Vertices : Type 0 where
   pub xs : List ℕ
   pub ys : List ℕ
 
+-- N values of the bytes s as column c of a page: a refusal names that column
+abbrev pub columnOf : ℕ → List ℕ → ℕ → Out (List ℕ)
+columnOf c s n = inColumn c (decodeOf 64 s n)
+
 -- the x column, then the y column
 unfoldable pub verticesOf : Head → List ℕ → Out Vertices
 verticesOf h b =
-    on (decodeOf 64 (xPart h b) (h .v)) (λ xs.
-    on (decodeOf 64 (yPart h b) (h .v)) (λ ys.
+    on (columnOf Axis.x (xPart h b) (h .v)) (λ xs.
+    on (columnOf Axis.y (yPart h b) (h .v)) (λ ys.
     ok (record { xs = xs; ys = ys })))
 
 -- ---- the rules, in order
