@@ -1,7 +1,7 @@
 //! The coordinate column: its writer and its reader.
 
 use crate::bits;
-use crate::refusal::{refused, Refusal};
+use crate::refusal::{fault, refused, refused_alone, ColumnFault, Refusal};
 
 /// "Column and page: at most 2,048 vertices."
 pub const MOST_VALUES: usize = 2048;
@@ -118,37 +118,44 @@ pub fn write(values: &[u64], room: &mut [u8]) -> Result<usize, Refusal> {
 }
 
 /// The values of a column of n values, or 8, 9 or 10 in that order. "With
-/// N = 0, any byte gives 9 and never 8."
-pub fn values_of(bytes: &[u8], n: usize) -> Result<Vec<u64>, u8> {
+/// N = 0, any byte gives 9 and never 8." The index is "0 for 8, N for bytes
+/// left over or fill bits, otherwise the value that lacked bits".
+pub fn values_of(bytes: &[u8], n: usize) -> Result<Vec<u64>, ColumnFault> {
     let mut values = Vec::new();
     if n == 0 {
-        return if bytes.is_empty() { Ok(values) } else { Err(9) };
+        // Bytes left over: the index is N, which is 0.
+        return if bytes.is_empty() {
+            Ok(values)
+        } else {
+            Err(fault(9, n))
+        };
     }
     let width = match bits::field(bytes, 0, 8) {
         Some(width) => width,
         None => {
-            return Err(9);
+            return Err(fault(9, 0));
         }
     };
     if width > u64::from(MOST_WIDTH) {
-        return Err(8);
+        return Err(fault(8, 0));
     }
     let width = width as u32;
     let mut place: u128 = 8;
     let first = match bits::field(bytes, place, 64) {
         Some(first) => first,
         None => {
-            return Err(9);
+            return Err(fault(9, 0));
         }
     };
     place += 64;
     values.push(first);
     let mut last = first;
     while values.len() < n {
+        let index = values.len(); // of the value worked on
         let entry = match bits::field(bytes, place, u128::from(width)) {
             Some(entry) => entry,
             None => {
-                return Err(9);
+                return Err(fault(9, index));
             }
         };
         place += u128::from(width);
@@ -156,7 +163,7 @@ pub fn values_of(bytes: &[u8], n: usize) -> Result<Vec<u64>, u8> {
             let full = match bits::field(bytes, place, 64) {
                 Some(full) => full,
                 None => {
-                    return Err(9);
+                    return Err(fault(9, index));
                 }
             };
             place += 64;
@@ -166,12 +173,13 @@ pub fn values_of(bytes: &[u8], n: usize) -> Result<Vec<u64>, u8> {
         }
         values.push(last);
     }
-    bits::end_rules(bytes, place)?;
+    bits::end_rules(bytes, place).map_err(|number| fault(number, n))?;
     Ok(values)
 }
 
 /// Column read: "3, 2, then 8 (if N > 0 and there is a first byte), 9, 10".
-/// Fills the start of the room, the rest stays.
+/// Fills the start of the room, the rest stays. 8, 9 and 10 have the index of
+/// `values_of`; "other refusals give index 0".
 pub fn read(bytes: &[u8], n: usize, room: &mut [u64]) -> Result<(), Refusal> {
     if n > MOST_VALUES {
         return Err(refused(3));
@@ -182,7 +190,7 @@ pub fn read(bytes: &[u8], n: usize, room: &mut [u64]) -> Result<(), Refusal> {
             return Err(refused(2));
         }
     };
-    let values = values_of(bytes, n).map_err(refused)?;
+    let values = values_of(bytes, n).map_err(refused_alone)?;
     start.copy_from_slice(&values);
     Ok(())
 }

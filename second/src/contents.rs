@@ -2,7 +2,7 @@
 
 use crate::column;
 use crate::frame::{lists_of, Page};
-use crate::refusal::{refused_at, Refusal};
+use crate::refusal::{refused_at, refused_in, Column, Refusal};
 use crate::shapes::{rule_11, rule_16, rules_12_to_15};
 
 /// The coordinates of a page, as bit patterns.
@@ -13,22 +13,21 @@ pub struct Coordinates {
 }
 
 /// "Page contents, each rule over the page before the next: 11, x column, y
-/// column, 12, 13, 14, 15, 16." The first number broken, or the coordinates.
-fn judge(page: &Page) -> Result<Coordinates, u8> {
+/// column, 12, 13, 14, 15, 16." The coordinates, or the first rule broken with
+/// the page number ("for page contents in a file, that page") and, if it is
+/// one of a column, with the column and the index.
+pub fn contents(page: &Page) -> Result<Coordinates, Refusal> {
     let lists = lists_of(page);
     if !rule_11(&lists, page.vertices) {
-        return Err(11);
+        return Err(refused_at(11, page.number));
     }
-    let xs = column::values_of(page.x_column, page.vertices)?;
-    let ys = column::values_of(page.y_column, page.vertices)?;
-    rules_12_to_15(&lists, &xs, &ys)?;
+    let xs = column::values_of(page.x_column, page.vertices)
+        .map_err(|fault| refused_in(fault, page.number, Column::X))?;
+    let ys = column::values_of(page.y_column, page.vertices)
+        .map_err(|fault| refused_in(fault, page.number, Column::Y))?;
+    rules_12_to_15(&lists, &xs, &ys).map_err(|number| refused_at(number, page.number))?;
     if !rule_16(&page.bounds, &xs, &ys) {
-        return Err(16);
+        return Err(refused_at(16, page.number));
     }
     Ok(Coordinates { xs, ys })
-}
-
-/// The same with the page number: "for page contents in a file, that page".
-pub fn contents(page: &Page) -> Result<Coordinates, Refusal> {
-    judge(page).map_err(|number| refused_at(number, page.number))
 }

@@ -1,6 +1,8 @@
 //! An independent second implementation of the boundary file, written from
-//! the document "Extent of the work and exact rules" alone. Brute force and
-//! plain lists throughout; nothing here tries to be fast.
+//! the document "Extent of the work and exact rules" alone, with Ticket 4 ("Say
+//! where in the page") of the document "Tickets"; where both are silent, for
+//! positions that were made up, the C header decides. Brute force and plain
+//! lists throughout; nothing here tries to be fast.
 
 pub mod bits;
 pub mod boxes;

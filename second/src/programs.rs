@@ -2,7 +2,7 @@
 
 use crate::check::full_check;
 use crate::query::split_block;
-use crate::refusal::{refused, Refusal};
+use crate::refusal::{refused, Column, Refusal};
 use crate::search::hits;
 
 /// "The programs take files up to 40,960 bytes."
@@ -14,9 +14,16 @@ pub const MOST_HITS: usize = 4096;
 /// The longest query block: six bytes and 32 bytes of floats.
 pub const MOST_QUERY_BLOCK: usize = 38;
 
-/// "A refusal prints one line 'refused R page P'."
+/// "A refusal prints one line 'refused R page P'." "For 8, 9 and 10 the
+/// programs add ' column x value I' (or y) to the refused line": in a program
+/// these three always come from a column of a page, and no other number does.
 pub fn refused_line(refusal: &Refusal) -> String {
-    format!("refused {} page {}\n", refusal.number, refusal.page)
+    let line = format!("refused {} page {}", refusal.number, refusal.page);
+    match refusal.column {
+        Column::None => format!("{line}\n"),
+        Column::X => format!("{line} column x value {}\n", refusal.index),
+        Column::Y => format!("{line} column y value {}\n", refusal.index),
+    }
 }
 
 /// What the full check of the library answers, as a line: "sound P pages M

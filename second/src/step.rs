@@ -3,7 +3,7 @@
 
 use crate::bits;
 use crate::column::{marker, step_from_zigzag, value_after, MOST_VALUES, MOST_WIDTH};
-use crate::refusal::{refused, Refusal};
+use crate::refusal::{fault, refused, refused_alone, ColumnFault, Refusal};
 
 /// "A position holds bit place, values given, width and last value."
 #[derive(Clone, Copy, Debug, PartialEq, Eq)]
@@ -33,9 +33,13 @@ pub enum Answer {
 /// One value a call, over the column's bytes, N and a position. "An answer
 /// that gives no value hands the position back unchanged."
 pub fn step(bytes: &[u8], n: usize, position: Position) -> Answer {
-    let answer = if n > MOST_VALUES {
-        Err(3)
-    } else if position.given == 0 {
+    if n > MOST_VALUES {
+        return Answer::Refused {
+            refusal: refused(3),
+            position,
+        };
+    }
+    let answer = if position.given == 0 {
         step_first(bytes, n)
     } else {
         step_later(bytes, n, position)
@@ -46,8 +50,8 @@ pub fn step(bytes: &[u8], n: usize, position: Position) -> Answer {
             position: next,
         },
         Ok(None) => Answer::End { position },
-        Err(number) => Answer::Refused {
-            refusal: refused(number),
+        Err(fault) => Answer::Refused {
+            refusal: refused_alone(fault),
             position,
         },
     }
@@ -55,16 +59,21 @@ pub fn step(bytes: &[u8], n: usize, position: Position) -> Answer {
 
 /// "With none given it starts at the first bit": the width and the first
 /// pattern, or the end of a column of no values. 8 is judged if there is a
-/// first byte, and any byte with N = 0 gives 9.
-fn step_first(bytes: &[u8], n: usize) -> Result<Option<Position>, u8> {
+/// first byte, and any byte with N = 0 gives 9. The index is 0 throughout: for
+/// 8, for the first value that lacks bits, and for N = 0.
+fn step_first(bytes: &[u8], n: usize) -> Result<Option<Position>, ColumnFault> {
     if n == 0 {
-        return if bytes.is_empty() { Ok(None) } else { Err(9) };
+        return if bytes.is_empty() {
+            Ok(None)
+        } else {
+            Err(fault(9, n))
+        };
     }
-    let width = bits::field(bytes, 0, 8).ok_or(9u8)?;
+    let width = bits::field(bytes, 0, 8).ok_or(fault(9, 0))?;
     if width > u64::from(MOST_WIDTH) {
-        return Err(8);
+        return Err(fault(8, 0));
     }
-    let value = bits::field(bytes, 8, 64).ok_or(9u8)?;
+    let value = bits::field(bytes, 8, 64).ok_or(fault(9, 0))?;
     Ok(Some(Position {
         place: 72,
         given: 1,
@@ -75,24 +84,28 @@ fn step_first(bytes: &[u8], n: usize) -> Result<Option<Position>, u8> {
 
 /// "Any other is taken as it stands: after 3, in this order, a width over 64
 /// gives 8, a place past the bytes 9, and with N or more given only the rules
-/// of the end (9, 10) remain."
-fn step_later(bytes: &[u8], n: usize, position: Position) -> Result<Option<Position>, u8> {
+/// of the end (9, 10) remain." The header says the index: "0 with 8, the
+/// number of values given where bits are lacking for the next one, the lesser
+/// of that number and n where the place lies past the bytes, and n with bytes
+/// left over and with 10".
+fn step_later(bytes: &[u8], n: usize, position: Position) -> Result<Option<Position>, ColumnFault> {
     if position.width > u64::from(MOST_WIDTH) {
-        return Err(8);
+        return Err(fault(8, 0));
     }
     if u128::from(position.place) > bits::bit_count(bytes) {
-        return Err(9);
+        return Err(fault(9, position.given.min(n as u64) as usize));
     }
     if u128::from(position.given) >= n as u128 {
-        bits::end_rules(bytes, u128::from(position.place))?;
+        bits::end_rules(bytes, u128::from(position.place)).map_err(|number| fault(number, n))?;
         return Ok(None);
     }
+    let index = position.given as usize; // of the next value, below n
     let width = u128::from(position.width);
     let mut place = u128::from(position.place);
-    let entry = bits::field(bytes, place, width).ok_or(9u8)?;
+    let entry = bits::field(bytes, place, width).ok_or(fault(9, index))?;
     place += width;
     let value = if u128::from(entry) == marker(position.width as u32) {
-        let full = bits::field(bytes, place, 64).ok_or(9u8)?;
+        let full = bits::field(bytes, place, 64).ok_or(fault(9, index))?;
         place += 64;
         full
     } else {
@@ -101,7 +114,7 @@ fn step_later(bytes: &[u8], n: usize, position: Position) -> Result<Option<Posit
     // The place is at most 8 times the length of a slice in memory, and a
     // slice is shorter than 2^63 bytes; a place that does not fit in 64 bits
     // would need a slice of 2^61 bytes or more.
-    let place = u64::try_from(place).map_err(|_| 9u8)?;
+    let place = u64::try_from(place).map_err(|_| fault(9, index))?;
     Ok(Some(Position {
         place,
         given: position.given + 1,

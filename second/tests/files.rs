@@ -8,7 +8,7 @@ use second::check::full_check;
 use second::fetch::{fetch, Fetched};
 use second::programs::{list_text, sound_text};
 use second::query::{parse, Query};
-use second::refusal::{refused, refused_at};
+use second::refusal::{fault, refused, refused_in, Column};
 use second::search::{count, search};
 use second::writer::{self, State};
 
@@ -168,6 +168,7 @@ fn damaged_files() {
 #[test]
 fn unopened_page() {
     let mut file = sample();
+    let width_of_y = refused_in(fault(8, 0), 1, Column::Y);
     // The y column is the last of page 1's bytes; its width byte: the page
     // has v = 2. The end block has 14 bytes.
     let at = (0..file.len() - 14)
@@ -175,14 +176,14 @@ fn unopened_page() {
         .find(|at| {
             let mut damaged = file.clone();
             damaged[*at] = 65;
-            full_check(&damaged) == Err(refused_at(8, 1))
+            full_check(&damaged) == Err(width_of_y)
         })
         .unwrap();
     file[at] = 65;
     let spot = parse(&query_block(&[10.0, 10.0])).unwrap();
     assert_eq!(count(&file, &spot), Ok(1));
     let spot = parse(&query_block(&[-5.0, -5.0])).unwrap();
-    assert_eq!(count(&file, &spot), Err(refused_at(8, 1)));
+    assert_eq!(count(&file, &spot), Err(width_of_y));
     assert_eq!(fetched(&file, 0).unwrap().0.register, 101);
     assert_eq!(fetched(&file, 3).unwrap_err(), 8);
     assert_eq!(fetched(&file, 4).unwrap_err(), 17);
@@ -284,6 +285,7 @@ fn writer_order() {
         let refused = answer.unwrap_err();
         assert_eq!(refused.state, state);
         assert_eq!(refused.refusal.page, 0);
+        assert_eq!((refused.refusal.column, refused.refusal.index), (Column::None, 0));
         refused.refusal.number
     };
     let state = |position: usize, pages: u32, shapes: u32, closed: bool| State {

@@ -8,7 +8,7 @@ use second::check::{full_check, Sound};
 use second::column::{best_width, read, s_of, write, zigzag, step_of};
 use second::programs::list_text;
 use second::query::Query;
-use second::refusal::refused;
+use second::refusal::{fault, refused, refused_alone};
 use second::search::{count, search};
 use second::shapes::{on_grid, turn};
 use second::writer;
@@ -37,8 +37,8 @@ fn column(width: u8, more: &[u8]) -> Vec<u8> {
 #[test]
 fn no_values() {
     assert_eq!(bytes(&[]), vec![]);
-    assert_eq!(read(&[0], 0, &mut []), Err(refused(9)));
-    assert_eq!(read(&[0x41], 0, &mut []), Err(refused(9)));
+    assert_eq!(read(&[0], 0, &mut []), Err(refused_alone(fault(9, 0))));
+    assert_eq!(read(&[0x41], 0, &mut []), Err(refused_alone(fault(9, 0))));
 }
 
 #[test]
@@ -77,9 +77,10 @@ fn read_columns() {
     read(&column(3, &[2]), 2, &mut room).unwrap();
     assert_eq!(room, [0, 1, 9]);
     let mut room = [9u64; 2];
-    assert_eq!(read(&column(2, &[6]), 2, &mut room), Err(refused(10)));
-    assert_eq!(read(&column(0x41, &[0]), 2, &mut room), Err(refused(8)));
-    assert_eq!(read(&column(2, &[]), 2, &mut room), Err(refused(9)));
+    let answer = |number: u8, index: usize| Err(refused_alone(fault(number, index)));
+    assert_eq!(read(&column(2, &[6]), 2, &mut room), answer(10, 2));
+    assert_eq!(read(&column(0x41, &[0]), 2, &mut room), answer(8, 0));
+    assert_eq!(read(&column(2, &[]), 2, &mut room), answer(9, 1));
     assert_eq!(room, [9, 9]);
 }
 

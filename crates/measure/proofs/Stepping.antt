@@ -46,7 +46,7 @@ given-none s n (suc k) p h = absurd (omega arith)
 
 -- over 2,048 none is given
 pub given-many : (s : List ℕ) (n left : ℕ) (p : Position) → 2048 < n → given s n left p ≡ []
-given-many s n left p h = given-refused s n left p (because Table.many) p (sym (said-refused p Table.many (next-many 64 s n p h)))
+given-many s n left p h = given-refused s n left p (because Table.many) p (sym (said-refused p (because Table.many) (next-many 64 s n p h)))
 
 -- ---- the sum
 

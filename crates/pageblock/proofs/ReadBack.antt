@@ -8,7 +8,10 @@ use lib.Dec.{ltb, eqb}
 use lib.ListN.{length, getD, drop}
 use borrow.Author.Tests.{eqb-true, eqb-false}
 use Rattle.answer.specs.Table as table
+use Rattle.answer.specs.Axis as Axis
+use Rattle.answer.specs.Refusal.{onColumn}
 use Rattle.answer.specs.Outcome.{ok}
+use Rattle.answer.proofs.Outcomes.{marked-value}
 use Rattle.answer.proofs.Rules.{rule-holds}
 use Rattle.le.specs.Number.{Fits}
 use Rattle.extent.specs.declared.bounds.Bounds.{Bounds}
@@ -215,7 +218,7 @@ module _ (ed : ℕ) (i : Handed) (t : Typed i) (q : Passed i) where
       ap₂ (λ (l : List ℕ) (n : ℕ). decodeOf 64 l n) x-back (head-vertices ed i) ∙ decodes-written 64 (i .xs) few (t .xs) in
       let dy : decodeOf 64 (yPart (headFor ed i) (bodyOf ed i)) (headFor ed i .v) ≡ ok (i .ys) =
       ap₂ (λ (l : List ℕ) (n : ℕ). decodeOf 64 l n) y-back (head-vertices ed i ∙ sym (s .same)) ∙ decodes-written 64 (i .ys) few (t .ys) in
-      on-value _ _ (i .xs) dx ∙ on-value _ _ (i .ys) dy
+      on-value _ _ (i .xs) (marked-value (onColumn Axis.x) (i .xs) dx) ∙ on-value _ _ (i .ys) (marked-value (onColumn Axis.y) (i .ys) dy)
 
   box-passes : boxRule (patterns (headFor ed i .stored)) (i .xs) (i .ys) ≡ ok tt
   unfolding boxRule boxHolds

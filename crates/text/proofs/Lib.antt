@@ -1,3 +1,4 @@
 pub mod Decimals
 pub mod Pieces
+pub mod Places
 pub mod Stretches

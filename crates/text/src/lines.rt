@@ -3,10 +3,13 @@
 ghost use Prim.Native.Nat.{_+_, _≤_};
 ghost use lib.ListN.{length};
 ghost use Rattle.io.specs.Counts.{Counts};
-ghost use Rattle.text.specs.Pieces.{Puts};
-ghost use Rattle.text.specs.Lines.{row, hitsLine, refusedLine, soundLine};
+ghost use mathlib.Core.List.{[], _∷_};
+ghost use Rattle.text.specs.Pieces.{Puts, words};
+ghost use Rattle.text.specs.Lines.{row, hitsLine, columnWords, whereWords, refusedLine, soundLine};
 use crate::put_number;
 use crate::put_words;
+use answer::Refusal;
+use answer::axis;
 
 // Puts a row, "place register type": where the next thing goes.
 pub fn put_row(out: &mut [u8], at: usize, place: u32, register: u32, kind: u8) -> usize
@@ -37,18 +40,44 @@ pub fn put_hits(out: &mut [u8], at: usize, hits: usize, shapes: usize) -> usize
     put_words(out, d, b"\n")
 }
 
-// Puts "refused R page P": where the next thing goes.
-pub fn put_refused(out: &mut [u8], at: usize, reason: u8, page: u32) -> usize
-    requires { ⌜ at + 55 ≤ length (now out) ⌝ }
-    ensures { λ r. ⌜ Puts (now (out .entry)) at (refusedLine reason page) r (now (out .exit)) ⌝ }
-    ensures { λ r. ⌜ r ≤ at + 55 ⌝ }
+// Puts the words for a column of a page: where the next thing goes.
+fn put_column(out: &mut [u8], at: usize, column: u8) -> usize
+    requires { ⌜ at + 16 ≤ length (now out) ⌝ }
+    ensures { λ r. ⌜ Puts (now (out .entry)) at (words (columnWords column) ∷ []) r (now (out .exit)) ⌝ }
+    ensures { λ r. ⌜ r ≤ at + 16 ⌝ }
+{
+    if column == axis::X {
+        return put_words(out, at, b" column x value ");
+    }
+    put_words(out, at, b" column y value ")
+}
+
+// Puts " column x value I" (or y), or nothing where no column is named: where the next thing goes.
+fn put_where(out: &mut [u8], at: usize, column: u8, index: u16) -> usize
+    requires { ⌜ at + 36 ≤ length (now out) ⌝ }
+    ensures { λ r. ⌜ Puts (now (out .entry)) at (whereWords column index) r (now (out .exit)) ⌝ }
+    ensures { λ r. ⌜ r ≤ at + 36 ⌝ }
+{
+    if column == axis::NONE {
+        return at;
+    }
+    let a = put_column(out, at, column);
+    put_number(out, a, index as u64)
+}
+
+// Puts "refused R page P", and behind it where in the page: where the next thing goes.
+pub fn put_refused(out: &mut [u8], at: usize, w: Refusal) -> usize
+    requires { ⌜ at + 91 ≤ length (now out) ⌝ }
+    ensures { λ r. ⌜ Puts (now (out .entry)) at (refusedLine w) r (now (out .exit)) ⌝ }
+    ensures { λ r. ⌜ r ≤ at + 91 ⌝ }
     ensures { λ r. ⌜ Counts r (now (out .exit)) ⌝ }
 {
     let a = put_words(out, at, b"refused ");
-    let b = put_number(out, a, reason as u64);
+    let b = put_number(out, a, w.number as u64);
     let c = put_words(out, b, b" page ");
-    let d = put_number(out, c, page as u64);
-    put_words(out, d, b"\n")
+    let d = put_number(out, c, w.page as u64);
+    let e = put_where(out, d, w.column, w.index);
+    put_words(out, e, b"\n")
 }
 
 // Puts "sound P pages M shapes": where the next thing goes.

@@ -1,18 +1,19 @@
--- A word taken apart: bits 0 to 31, and those above. What each call says is far below 2 ^ 32, so that nothing it says is taken for a refusal. Assumes nothing.
-use Prim.Native.Nat.{ℕ, zero, suc, _/_, _%_, _^_, _≤_, _<_}
+-- A word taken apart: bits 0 to 31, 32 to 39, 40 and 41, 42 to 53. What each call says is far below 2 ^ 32, so that nothing it says is taken for a
+-- refusal. Assumes nothing.
+use Prim.Native.Nat.{ℕ, _/_, _%_, _^_, _≤_, _<_}
 use mathlib.Core.Path.{_≡_, subst}
 use mathlib.Core.List.{List, []}
 use native.Mathlib.Omega.{arith}
 use lib.Dec.{leb}
 use lib.ListN.{length}
-use borrow.Author.Tests.{leb-true, ne-eqb}
+use borrow.Author.Tests.{leb-true}
 use Rattle.answer.specs.declared.Refusal.{Refusal}
 use Rattle.answer.specs.Outcome.{refused, ok}
 use Rattle.answer.proofs.Outcomes.{ok-inj, need-ok, on-ok}
 use Rattle.column.specs.Column.{encode}
 use Rattle.column.specs.Write.{writeOf}
-use Rattle.column.specs.Read.{saidBy, endOf, endRules, someOf, decodeOf, readOf}
-use Rattle.column.proofs.Decoding.{length-said}
+use Rattle.column.specs.Read.{readOf}
+use Rattle.column.proofs.Decoding.{scratch-ok}
 use Rattle.column.proofs.Trips.{bytes-most}
 use Rattle.query.specs.declared.ask.Ask.{Ask}
 use Rattle.query.specs.Block.{askOf}
@@ -34,9 +35,30 @@ pub said-apart : (n : ℕ) → n < 2 ^ 32 → (wordOf (ok n) / 2 ^ 32 ≡ 0) × 
 unfolding wordOf
 said-apart n h = (omega arith, omega arith)
 
-pub refused-apart : (w : Refusal) → w .page < 2 ^ 32 → (wordOf (refused w) / 2 ^ 32 ≡ w .number) × (wordOf (refused w) % 2 ^ 32 ≡ w .page)
+-- a refusal's parts fit their bits
+pub record Fits (w : Refusal) : Type 0 where
+  pub page : w .page < 2 ^ 32
+  pub number : w .number < 2 ^ 8
+  pub column : w .column < 2 ^ 2
+  pub index : w .index < 2 ^ 12
+
+-- and are found there again, with nothing above them
+pub record Apart (w : Refusal) (word : ℕ) : Type 0 where
+  pub page : word % 2 ^ 32 ≡ w .page
+  pub number : word / 2 ^ 32 % 2 ^ 8 ≡ w .number
+  pub column : word / 2 ^ 40 % 2 ^ 2 ≡ w .column
+  pub index : word / 2 ^ 42 % 2 ^ 12 ≡ w .index
+  pub above : word < 2 ^ 54
+
+pub refused-apart : (w : Refusal) → Fits w → Apart w (wordOf (refused w))
 unfolding wordOf
-refused-apart w h = (omega arith, omega arith)
+refused-apart w h = record {
+  page = omega (arith, h .page, h .number, h .column, h .index);
+  number = omega (arith, h .page, h .number, h .column, h .index);
+  column = omega (arith, h .page, h .number, h .column, h .index);
+  index = omega (arith, h .page, h .number, h .column, h .index);
+  above = omega (arith, h .page, h .number, h .column, h .index);
+}
 
 -- ---- what the calls say
 
@@ -70,30 +92,13 @@ write-fits vs size l e =
     let b = bytes-most vs in
     subst (λ (k : List ℕ). length k ≤ 16385) (ok-inj (y .1)) (omega (arith, h, b))
 
-ending-ok : {A : Type 0} (s : List ℕ) (at : ℕ) (a b : A) → endRules s at (ok a) ≡ ok b → a ≡ b
-unfolding endRules
-ending-ok s at a b e = let x = need-ok _ _ _ b e in let y = need-ok _ _ _ b (x .1) in ok-inj (y .1)
-
-some-few : (P : ℕ) (s : List ℕ) (n : ℕ) (l : List ℕ) → 0 < n → someOf P s n ≡ ok l → length l ≤ n
-unfolding someOf
-some-few P s n l h e =
-    let x = need-ok _ _ _ l e in
-    let y = need-ok _ _ _ l (x .1) in
-    let q = length-said P s n h in
-    subst (λ (k : List ℕ). length k ≤ n) (ending-ok s (endOf P s n) (saidBy P s n) l (y .1)) (omega (arith, q))
-
-decode-few : (P : ℕ) (s : List ℕ) (n : ℕ) (l : List ℕ) → decodeOf P s n ≡ ok l → length l ≤ n
-unfolding decodeOf
-decode-few P s zero l e = subst (λ (k : List ℕ). length k ≤ 0) (ending-ok s 0 [] l e) (omega arith)
-decode-few P s (suc n) l e = some-few P s (suc n) l (omega arith) (simp (ne-eqb (suc n) 0 (λ z. omega arith)) at e)
-
 pub read-fits : (P : ℕ) (s : List ℕ) (n size : ℕ) (l : List ℕ) → readOf P s n size ≡ ok l → length l ≤ 2048
 unfolding readOf
 read-fits P s n size l e =
     let x = need-ok (leb n 2048) _ _ l e in
     let y = need-ok (leb n size) _ _ l (x .1) in
     let h = leb-true n 2048 (x .0) in
-    let d = decode-few P s n l (y .1) in
+    let d = scratch-ok P s n [] l (y .1) .0 in
     omega (arith, h, d)
 
 pub step-fits : (t : ValueOrEnd) → gives t ≤ 1

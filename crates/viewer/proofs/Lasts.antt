@@ -31,9 +31,9 @@ unfolding Lasts need
 lasts-need true w x h = h
 lasts-need false w x h = tt
 
-lasts-ending : (s : List ℕ) (at : ℕ) → Lasts (endRules s at (ok end))
+lasts-ending : (s : List ℕ) (n at : ℕ) → Lasts (endRules s n at (ok end))
 unfolding Lasts endRules
-lasts-ending s at = lasts-need _ _ (need _ _ (ok end)) (lasts-need _ _ (ok end) tt)
+lasts-ending s n at = lasts-need _ _ (need _ _ (ok end)) (lasts-need _ _ (ok end) tt)
 
 lasts-either : (t : Bool) (x y : Out ValueOrEnd) → Lasts x → Lasts y → Lasts (cond t x y)
 lasts-either true x y h k = h
@@ -41,11 +41,11 @@ lasts-either false x y h k = k
 
 lasts-first : (P : ℕ) (s : List ℕ) (n : ℕ) → Lasts (firstCall P s n)
 unfolding firstCall
-lasts-first P s n = lasts-either (eqb n 0) _ _ (lasts-ending s 0) (lasts-need _ _ _ (lasts-need _ _ _ (lasts-need _ _ _ (lasts-value _ _ refl))))
+lasts-first P s n = lasts-either (eqb n 0) _ _ (lasts-ending s 0 0) (lasts-need _ _ _ (lasts-need _ _ _ (lasts-need _ _ _ (lasts-value _ _ refl))))
 
 lasts-later : (P : ℕ) (s : List ℕ) (n : ℕ) (p : Position) → Lasts (laterCall P s n p)
 unfolding laterCall
-lasts-later P s n p = lasts-need _ _ _ (lasts-need _ _ _ (lasts-either (leb n (p .given)) _ _ (lasts-ending s (p .at)) (lasts-need _ _ _ (lasts-need _ _ _ (lasts-value _ _ refl)))))
+lasts-later P s n p = lasts-need _ _ _ (lasts-need _ _ _ (lasts-either (leb n (p .given)) _ _ (lasts-ending s n (p .at)) (lasts-need _ _ _ (lasts-need _ _ _ (lasts-value _ _ refl)))))
 
 lasts-next : (P : ℕ) (s : List ℕ) (n : ℕ) (p : Position) → Lasts (stepOf P s n p)
 unfolding stepOf

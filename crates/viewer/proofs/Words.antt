@@ -19,7 +19,7 @@ use Rattle.search.specs.declared.count.Counted.the-variants as counted
 use Rattle.search.specs.Search.{countOf, saidCount}
 use Rattle.viewer.specs.Word.{wordOf}
 
-pub refusal-is : (w : Refusal) → w .number * 2 ^ 32 + w .page ≡ wordOf (refused w)
+pub refusal-is : (w : Refusal) → w .index * 2 ^ 42 + w .column * 2 ^ 40 + w .number * 2 ^ 32 + w .page ≡ wordOf (refused w)
 unfolding wordOf
 refusal-is w = refl
 

@@ -1,4 +1,5 @@
--- Answers as one word, for C: "low 32 bits the number, or the page of a refusal; bits 32 to 39 the refusal's number, 0 if none". Assumes nothing.
+-- Answers as one word, for C: bits 0 to 31 the number, or the page of a refusal; bits 32 to 39 the refusal's number, 0 if none; bits 40 and 41 its
+-- column, bits 42 to 53 its index. Assumes nothing.
 use Prim.Native.Nat.{ℕ, _+_, _*_, _^_}
 use mathlib.Core.Path.{_≡_}
 use mathlib.Core.List.{List}
@@ -10,7 +11,7 @@ use Rattle.answer.specs.Lent.{Lent, came, left}
 -- a number below 2 ^ 32, or a refusal
 unfoldable pub wordOf : Out ℕ → ℕ
 wordOf (ok n) = n
-wordOf (refused w) = w .number * 2 ^ 32 + w .page
+wordOf (refused w) = w .index * 2 ^ 42 + w .column * 2 ^ 40 + w .number * 2 ^ 32 + w .page
 
 -- what the code's answer says: how many elements were put in a room, or the refusal
 unfoldable pub saidFilled : Filled → Out ℕ

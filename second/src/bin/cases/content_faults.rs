@@ -16,29 +16,24 @@ fn zero_one() -> Page {
 /// The column of 0, 1.
 const ZERO_ONE: [u8; 10] = [2, 0, 0, 0, 0, 0, 0, 0, 0, 2];
 
-/// Puts a faulty column in x, and in y, of the page of `zero_one`.
-fn in_x_and_y(
-    cases: &mut Cases,
-    name: &str,
-    column: &[u8],
-    on_first: &'static str,
-    on_later: &'static str,
-) {
+/// Puts a faulty column in x, and in y, of the page of `zero_one`; the number
+/// and the value's index expected.
+fn in_x_and_y(cases: &mut Cases, name: &str, column: &[u8], number: u8, index: u32) {
     cases.both(
         &format!("{name}-x"),
         &zero_one().with_x(column),
-        on_first,
-        on_later,
+        &format!("refused {number} page 0 column x value {index}"),
+        &format!("refused {number} page 1 column x value {index}"),
     );
     cases.both(
         &format!("{name}-y"),
         &zero_one().with_y(column),
-        on_first,
-        on_later,
+        &format!("refused {number} page 0 column y value {index}"),
+        &format!("refused {number} page 1 column y value {index}"),
     );
 }
 
-/// Width over 64 (8).
+/// Width over 64 (8): value 0.
 pub fn width(cases: &mut Cases) {
     for (name, width) in [
         ("08-width-65", 65u8),
@@ -50,75 +45,73 @@ pub fn width(cases: &mut Cases) {
     ] {
         let mut column = vec![width];
         column.extend_from_slice(&[0; 20]);
-        in_x_and_y(
-            cases,
-            name,
-            &column,
-            "refused 8 page 0",
-            "refused 8 page 1",
-        );
+        in_x_and_y(cases, name, &column, 8, 0);
     }
     in_x_and_y(
         cases,
         "08-width-65-and-nine-zero-bytes",
         &[0x41, 0, 0, 0, 0, 0, 0, 0, 0, 0],
-        "refused 8 page 0",
-        "refused 8 page 1",
+        8,
+        0,
     );
 }
 
-/// Too few bits, or a whole byte too many (9).
+/// Too few bits, or a whole byte too many (9): the value that lacks bits, or 2
+/// for bytes left over.
 pub fn bits(cases: &mut Cases) {
-    for (name, column) in [
-        ("09-no-bytes", vec![]),
-        ("09-width-alone", vec![2]),
-        ("09-width-0-alone", vec![0]),
-        ("09-width-64-alone", vec![64]),
-        ("09-first-value-cut", vec![2, 0, 0, 0, 0, 0, 0, 0]),
-        ("09-first-value-only", vec![2, 0, 0, 0, 0, 0, 0, 0, 0]),
-        ("09-width-0-first-value-only", vec![0, 0, 0, 0, 0, 0, 0, 0, 0]),
+    for (name, column, index) in [
+        ("09-no-bytes", vec![], 0),
+        ("09-width-alone", vec![2], 0),
+        ("09-width-0-alone", vec![0], 0),
+        ("09-width-64-alone", vec![64], 0),
+        ("09-first-value-cut", vec![2, 0, 0, 0, 0, 0, 0, 0], 0),
+        ("09-first-value-only", vec![2, 0, 0, 0, 0, 0, 0, 0, 0], 1),
+        ("09-width-0-first-value-only", vec![0, 0, 0, 0, 0, 0, 0, 0, 0], 1),
         (
             "09-width-0-second-value-cut",
             vec![0, 0, 0, 0, 0, 0, 0, 0, 0, 1, 0, 0, 0, 0, 0, 0],
+            1,
         ),
-        ("09-width-9-entry-cut", vec![9, 0, 0, 0, 0, 0, 0, 0, 0, 2]),
+        ("09-width-9-entry-cut", vec![9, 0, 0, 0, 0, 0, 0, 0, 0, 2], 1),
         (
             "09-width-64-entry-cut",
             vec![64, 0, 0, 0, 0, 0, 0, 0, 0, 2, 0, 0, 0, 0, 0, 0],
+            1,
         ),
         (
             "09-marker-without-value",
             vec![2, 0, 0, 0, 0, 0, 0, 0, 0, 3],
+            1,
         ),
         (
             "09-marker-value-cut",
             vec![2, 0, 0, 0, 0, 0, 0, 0, 0, 7, 0, 0, 0, 0, 0, 0, 0],
+            1,
         ),
         (
             "09-byte-too-many",
             vec![2, 0, 0, 0, 0, 0, 0, 0, 0, 2, 0],
+            2,
         ),
         (
             "09-nine-bytes-too-many",
             vec![2, 0, 0, 0, 0, 0, 0, 0, 0, 2, 0, 0, 0, 0, 0, 0, 0, 0, 0],
+            2,
         ),
         (
             "09-byte-too-many-at-a-byte-edge",
             vec![8, 0, 0, 0, 0, 0, 0, 0, 0, 2, 0],
+            2,
         ),
         (
             "09-width-0-byte-too-many",
             vec![0, 0, 0, 0, 0, 0, 0, 0, 0, 1, 0, 0, 0, 0, 0, 0, 0, 0],
+            2,
         ),
     ] {
-        in_x_and_y(
-            cases,
-            name,
-            &column,
-            "refused 9 page 0",
-            "refused 9 page 1",
-        );
+        in_x_and_y(cases, name, &column, 9, index);
     }
+    // N = 0: bytes left over, so value N, which is 0.
     for (name, column) in [
         ("09-bytes-at-none", vec![0u8]),
         ("09-bytes-at-none-width-65", vec![65]),
@@ -128,71 +121,67 @@ pub fn bits(cases: &mut Cases) {
         cases.both(
             &format!("{name}-x"),
             &none().with_x(&column),
-            "refused 9 page 0",
-            "refused 9 page 1",
+            "refused 9 page 0 column x value 0",
+            "refused 9 page 1 column x value 0",
         );
         cases.both(
             &format!("{name}-y"),
             &none().with_y(&column),
-            "refused 9 page 0",
-            "refused 9 page 1",
+            "refused 9 page 0 column y value 0",
+            "refused 9 page 1 column y value 0",
         );
     }
-    // The two columns as they should be, with the edge between them moved.
+    // The two columns of one value as they should be, with the edge between
+    // them moved: on, x has bytes left over (1); back, x lacks bits for its
+    // first value (0).
     cases.both(
         "09-edge-between-columns-one-on",
         &good().with_cx_cy(10, 8),
-        "refused 9 page 0",
-        "refused 9 page 1",
+        "refused 9 page 0 column x value 1",
+        "refused 9 page 1 column x value 1",
     );
     cases.both(
         "09-edge-between-columns-one-back",
         &good().with_cx_cy(8, 10),
-        "refused 9 page 0",
-        "refused 9 page 1",
+        "refused 9 page 0 column x value 0",
+        "refused 9 page 1 column x value 0",
     );
     cases.both(
         "09-all-bytes-in-x",
         &good().with_cx_cy(18, 0),
-        "refused 9 page 0",
-        "refused 9 page 1",
+        "refused 9 page 0 column x value 1",
+        "refused 9 page 1 column x value 1",
     );
     cases.both(
         "09-all-bytes-in-y",
         &good().with_cx_cy(0, 18),
-        "refused 9 page 0",
-        "refused 9 page 1",
+        "refused 9 page 0 column x value 0",
+        "refused 9 page 1 column x value 0",
     );
 }
 
-/// Fill bits not zero (10).
+/// Fill bits not zero (10): value N, which is 2.
 pub fn fill(cases: &mut Cases) {
     for bit in 2..8u8 {
         let mut column = ZERO_ONE;
         column[9] |= 1 << bit;
-        in_x_and_y(
-            cases,
-            &format!("10-fill-bit-{bit}"),
-            &column,
-            "refused 10 page 0",
-            "refused 10 page 1",
-        );
+        in_x_and_y(cases, &format!("10-fill-bit-{bit}"), &column, 10, 2);
     }
     // 72 + 7 bits: one fill bit.
     in_x_and_y(
         cases,
         "10-only-fill-bit",
         &[7, 0, 0, 0, 0, 0, 0, 0, 0, 0x82],
-        "refused 10 page 0",
-        "refused 10 page 1",
+        10,
+        2,
     );
     // After a full value: 72 + 2 + 64 bits, the marker, then 1, then a one.
     in_x_and_y(
         cases,
         "10-fill-after-a-full-value",
         &[2, 0, 0, 0, 0, 0, 0, 0, 0, 7, 0, 0, 0, 0, 0, 0, 0, 4],
-        "refused 10 page 0",
-        "refused 10 page 1",
+        10,
+        2,
     );
 }
 

@@ -6,7 +6,7 @@ use crate::builders::{file, good, Page};
 pub struct Case {
     pub name: String,
     pub input: Vec<u8>,
-    pub expected: &'static str,
+    pub expected: String,
     /// The line is the library's full check, not the program's.
     pub library: bool,
 }
@@ -19,21 +19,21 @@ pub struct Cases {
 
 impl Cases {
     /// A case for the program `sound`.
-    pub fn add(&mut self, name: &str, input: Vec<u8>, expected: &'static str) {
+    pub fn add(&mut self, name: &str, input: Vec<u8>, expected: &str) {
         self.list.push(Case {
             name: name.to_string(),
             input,
-            expected,
+            expected: expected.to_string(),
             library: false,
         });
     }
 
     /// A case for the library's full check only.
-    pub fn add_library(&mut self, name: &str, input: Vec<u8>, expected: &'static str) {
+    pub fn add_library(&mut self, name: &str, input: Vec<u8>, expected: &str) {
         self.list.push(Case {
             name: name.to_string(),
             input,
-            expected,
+            expected: expected.to_string(),
             library: true,
         });
     }
@@ -44,8 +44,8 @@ impl Cases {
         &mut self,
         name: &str,
         faulty: &Page,
-        on_first: &'static str,
-        on_later: &'static str,
+        on_first: &str,
+        on_later: &str,
     ) {
         self.add(&format!("{name}-first"), file(&[faulty, &good()]), on_first);
         self.add(
@@ -61,8 +61,8 @@ impl Cases {
         &mut self,
         name: &str,
         faulty: &[u8],
-        on_first: &'static str,
-        on_later: &'static str,
+        on_first: &str,
+        on_later: &str,
     ) {
         use crate::builders::{end, join, FIRST};
         self.add(

@@ -371,28 +371,28 @@ fn contents_pairs(cases: &mut Cases) {
     cases.both(
         "pair-08-and-09-width-byte-alone-x",
         &good().with_x(&[65]),
-        "refused 8 page 0",
-        "refused 8 page 1",
+        "refused 8 page 0 column x value 0",
+        "refused 8 page 1 column x value 0",
     );
     cases.both(
         "pair-08-and-09-width-byte-alone-y",
         &good().with_y(&[255]),
-        "refused 8 page 0",
-        "refused 8 page 1",
+        "refused 8 page 0 column y value 0",
+        "refused 8 page 1 column y value 0",
     );
     cases.both(
         "pair-09-and-10-byte-too-many-and-fill",
         &page(&[line(1, &[(0.0, 1.0), (0.0, 1.0)])])
             .with_x(&[2, 0, 0, 0, 0, 0, 0, 0, 0, 6, 0]),
-        "refused 9 page 0",
-        "refused 9 page 1",
+        "refused 9 page 0 column x value 2",
+        "refused 9 page 1 column x value 2",
     );
     cases.both(
         "pair-09-and-10-byte-too-many-not-zero",
         &page(&[line(1, &[(0.0, 1.0), (0.0, 1.0)])])
             .with_x(&[2, 0, 0, 0, 0, 0, 0, 0, 0, 2, 255]),
-        "refused 9 page 0",
-        "refused 9 page 1",
+        "refused 9 page 0 column x value 2",
+        "refused 9 page 1 column x value 2",
     );
     // x column before y column.
     let zero_one = || {
@@ -406,28 +406,28 @@ fn contents_pairs(cases: &mut Cases) {
         &zero_one()
             .with_x(&[2, 0, 0, 0, 0, 0, 0, 0, 0, 6])
             .with_y(&[65; 10]),
-        "refused 10 page 0",
-        "refused 10 page 1",
+        "refused 10 page 0 column x value 2",
+        "refused 10 page 1 column x value 2",
     );
     cases.both(
         "pair-10-x-and-09-y",
         &zero_one()
             .with_x(&[2, 0, 0, 0, 0, 0, 0, 0, 0, 6])
             .with_y(&[]),
-        "refused 10 page 0",
-        "refused 10 page 1",
+        "refused 10 page 0 column x value 2",
+        "refused 10 page 1 column x value 2",
     );
     cases.both(
         "pair-09-x-and-08-y",
         &zero_one().with_x(&[2, 0, 0]).with_y(&[65; 10]),
-        "refused 9 page 0",
-        "refused 9 page 1",
+        "refused 9 page 0 column x value 0",
+        "refused 9 page 1 column x value 0",
     );
     cases.both(
         "pair-08-x-and-09-y",
         &zero_one().with_x(&[65]).with_y(&[2]),
-        "refused 8 page 0",
-        "refused 8 page 1",
+        "refused 8 page 0 column x value 0",
+        "refused 8 page 1 column x value 0",
     );
     // y column and 12.
     cases.both(
@@ -435,20 +435,20 @@ fn contents_pairs(cases: &mut Cases) {
         &zero_one()
             .with_x(&full_column(&[QUIET, QUIET]))
             .with_y(&[2, 0, 0, 0, 0, 0, 0, 0, 0, 6]),
-        "refused 10 page 0",
-        "refused 10 page 1",
+        "refused 10 page 0 column y value 2",
+        "refused 10 page 1 column y value 2",
     );
     cases.both(
         "pair-09-y-and-12",
         &zero_one().with_x(&full_column(&[QUIET, QUIET])).with_y(&[0]),
-        "refused 9 page 0",
-        "refused 9 page 1",
+        "refused 9 page 0 column y value 0",
+        "refused 9 page 1 column y value 0",
     );
     cases.both(
         "pair-08-y-and-12",
         &zero_one().with_x(&full_column(&[QUIET, 0])).with_y(&[66; 20]),
-        "refused 8 page 0",
-        "refused 8 page 1",
+        "refused 8 page 0 column y value 0",
+        "refused 8 page 1 column y value 0",
     );
     // 12 and 13: in one ring, and in two shapes the other way round.
     let nan = f64::from_bits(QUIET);

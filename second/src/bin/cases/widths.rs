@@ -14,6 +14,21 @@ fn page_with(values: &[u64], column: &[u8], least: u64, greatest: u64) -> Page {
         .with_bounds([least, y, greatest, y])
 }
 
+/// The index of the value of 10, 1000, 1001, 1000 that lacks bits if the last
+/// byte of their column is cut off. Where the last value takes 8 bits or more
+/// (in full at widths 0 and 1, as a step from width 8 on) it is that one, 3.
+/// For the others, the bits at which the values 0 to 3 end and the bits left:
+/// width 2: 72, 138, 140, 142, left 136; 3: 72, 139, 142, 145, left 144;
+/// 4: 72, 140, 144, 148, left 144; 5: 72, 141, 146, 151, left 144;
+/// 6: 72, 142, 148, 154, left 152; 7: 72, 143, 150, 157, left 152.
+fn cut_value(width: u32) -> u32 {
+    match width {
+        2 => 1,
+        5 => 2,
+        _ => 3,
+    }
+}
+
 /// All cases of this file.
 pub fn all(cases: &mut Cases) {
     for width in 0..=64u32 {
@@ -53,13 +68,13 @@ pub fn all(cases: &mut Cases) {
         cases.add(
             &format!("width-{width:02}-09-cut"),
             file(&[&page_with(&values, &column[..column.len() - 1], 10, 1001)]),
-            "refused 9 page 0",
+            &format!("refused 9 page 0 column x value {}", cut_value(width)),
         );
         let long = join(&[&column, &[0]]);
         cases.add(
             &format!("width-{width:02}-09-long"),
             file(&[&page_with(&values, &long, 10, 1001)]),
-            "refused 9 page 0",
+            "refused 9 page 0 column x value 4",
         );
         // 72 + 3n + 64 × (full values) bits: no fill bits if n is a multiple
         // of 8.
@@ -69,7 +84,7 @@ pub fn all(cases: &mut Cases) {
             cases.add(
                 &format!("width-{width:02}-10-fill"),
                 file(&[&page_with(&values, &filled, 10, 1001)]),
-                "refused 10 page 0",
+                "refused 10 page 0 column x value 4",
             );
         }
     }

@@ -13,11 +13,42 @@ mul-result c = search needs
 cast-result-2 : tie.Need-cast-result-2
 cast-result-2 c = search needs
 
+mul-result-2 : tie.Need-mul-result-2
+mul-result-2 c = search needs
+
 add-result : tie.Need-add-result
 add-result c = search needs
 
+cast-result-3 : tie.Need-cast-result-3
+cast-result-3 c = search needs
+
+mul-result-3 : tie.Need-mul-result-3
+mul-result-3 c = search needs
+
+add-result-2 : tie.Need-add-result-2
+add-result-2 c = search needs
+
+cast-result-4 : tie.Need-cast-result-4
+cast-result-4 c = search needs
+
+add-result-3 : tie.Need-add-result-3
+add-result-3 c = search needs
+
 returns : tie.Need-returns
-returns c = refusal-is (c .before .before .args .w)
+returns c = refusal-is (c .before .before .before .before .args .w)
 
 pub refusal-word-spec : {M : Type 1} → statement M
-refusal-word-spec = tie.close (tie.spec cast-result mul-result cast-result-2 add-result returns)
+refusal-word-spec =
+    tie.close
+    (tie.spec
+    cast-result
+    mul-result
+    cast-result-2
+    mul-result-2
+    add-result
+    cast-result-3
+    mul-result-3
+    add-result-2
+    cast-result-4
+    add-result-3
+    returns)
