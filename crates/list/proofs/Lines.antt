@@ -10,6 +10,7 @@ use Rattle.text.specs.Pieces.{Piece, codes, textOf, most}
 use Rattle.text.specs.Lines.{row, hitsLine, refusedLine}
 use Rattle.text.specs.Stretch.{Stretch}
 use Rattle.text.proofs.Pieces.{text-most, most-append}
+use Rattle.text.proofs.Places.{refused-most}
 use Rattle.text.proofs.Stretches.{Written, written-none, written-next, written-more}
 use Rattle.list.specs.Listing.{Listing, listing, listingOf}
 use Rattle.list.specs.Printed.{rowLines, linesOf, printedOf}
@@ -18,7 +19,7 @@ use Rattle.list.proofs.Rowing.{rows-between, rows-over}
 
 -- ---- a refused input
 
-pub refused-left : (input : List ℕ) (w : Refusal) → listingOf input ≡ refused w → (k : ℕ) → k ≡ 0 → Written (printedOf input) k (refusedLine (w .number) (w .page))
+pub refused-left : (input : List ℕ) (w : Refusal) → listingOf input ≡ refused w → (k : ℕ) → k ≡ 0 → Written (printedOf input) k (refusedLine w)
 unfolding printedOf linesOf
 refused-left input w e k z = written-none _ k _ z (ap (λ (o : Out Listing). textOf (linesOf o)) e)
 
@@ -63,10 +64,6 @@ rows-most (p ∷ P) [] T = omega arith
 rows-most (p ∷ P) (r ∷ R) [] = omega arith
 rows-most (p ∷ P) (r ∷ R) (t ∷ T) = omega (arith, rows-most P R T)
 
-refused-most : (w : Refusal) → most (linesOf (refused w)) ≤ 55
-unfolding linesOf most refusedLine codes
-refused-most w = omega arith
-
 listed-most : (l : Listing) → most (linesOf (ok l)) ≤ 63 * length (l .places) + 50
 unfolding linesOf
 listed-most l = omega (arith, most-append (rowLines (l .places) (l .registers) (l .types)) (hitsLine (length (l .places)) (l .shapes)), rows-most (l .places) (l .registers) (l .types), last-most)
@@ -80,5 +77,5 @@ unfolding printedOf
 printed-short input = go (listingOf input) refl
   where
     go : (o : Out Listing) → listingOf input ≡ o → length (textOf (linesOf (listingOf input))) < 262144
-    go (refused w) e = rw e (omega (arith, text-most (linesOf (refused w)), refused-most w))
+    go (refused w) e = unfold linesOf in rw e (omega (arith, text-most (refusedLine w), refused-most w))
     go (ok l) e = rw e (omega (arith, text-most (linesOf (ok l)), listed-most l, listed-few input l e))

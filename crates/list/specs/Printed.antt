@@ -1,5 +1,5 @@
 -- The whole output of the listing program, as a function of its whole input: "a line 'place register type' for each hit, then 'hits H of M', M all shapes in
--- the file. A refusal prints one line 'refused R page P'." Assumes nothing.
+-- the file. A refusal prints one line 'refused R page P'", with column and value behind it for 8, 9 and 10. Assumes nothing.
 use Prim.Native.Nat.{ℕ}
 use mathlib.Core.List.{List, [], _∷_, _++_}
 use lib.ListN.{length}
@@ -17,7 +17,7 @@ rowLines (n ∷ ns) (r ∷ rs) (t ∷ ts) = row n r t ++ rowLines ns rs ts
 
 -- the rows and the last line, or the refused line alone
 unfoldable pub linesOf : Out Listing → List Piece
-linesOf (refused w) = refusedLine (w .number) (w .page)
+linesOf (refused w) = refusedLine w
 linesOf (ok l) = rowLines (l .places) (l .registers) (l .types) ++ hitsLine (length (l .places)) (l .shapes)
 
 -- what is printed of an input

@@ -49,8 +49,8 @@ fn say_refused(input: &[u8], w: Refusal, k: &mut usize)
     requires { ⌜ listingOf (now input) ≡ refused w ⌝ }
     ensures { λ _. ⌜ now (k .exit) ≡ length (printedOf (now (input .entry))) ⌝ }
 {
-    let mut out = [0u8; 64];
-    let n = put_refused(&mut out, 0, w.number, w.page);
+    let mut out = [0u8; 96];
+    let n = put_refused(&mut out, 0, w);
     write(input, &out[..n], true, k);
 }
 

@@ -22,6 +22,7 @@ use Rattle.file.specs.Check.{checkOf}
 use Rattle.text.specs.Pieces.{Piece, codes, textOf, most, Puts}
 use Rattle.text.specs.Lines.{refusedLine, soundLine}
 use Rattle.text.proofs.Pieces.{text-most}
+use Rattle.text.proofs.Places.{refused-most}
 use Rattle.text.proofs.Stretches.{Written, written-none}
 use Rattle.sound.specs.Sound.{mostRead, judgedOf, lineOf, soundOf, printedOf}
 
@@ -40,19 +41,19 @@ module _ (s d : List ℕ) (says : Checked) (r : ℕ) (left : List ℕ) (e : said
   unfolding saidChecked lineOf soundOf
   line-sound t f = subst (λ (l : List Piece). Puts d 0 l r left) (ap lineOf (sym (ap saidChecked f) ∙ e))
 
-  pub line-refused : (w : Refusal) → says ≡ Refused w → Puts d 0 (refusedLine (w .number) (w .page)) r left → Puts d 0 (soundOf s) r left
+  pub line-refused : (w : Refusal) → says ≡ Refused w → Puts d 0 (refusedLine w) r left → Puts d 0 (soundOf s) r left
   unfolding saidChecked lineOf soundOf
   line-refused w f = subst (λ (l : List Piece). Puts d 0 l r left) (ap lineOf (sym (ap saidChecked f) ∙ e))
 
 -- ---- what is printed
 
 -- it is short
-pub printed-short : (s : List ℕ) → length (printedOf s) ≤ 61
+pub printed-short : (s : List ℕ) → length (printedOf s) ≤ 91
 unfolding printedOf soundOf
 printed-short s = omega (arith, text-most (lineOf (judgedOf s)), go (judgedOf s))
   where
-    go : (o : Out Totals) → most (lineOf o) ≤ 61
-    go (refused w) = unfold lineOf most refusedLine codes in omega arith
+    go : (o : Out Totals) → most (lineOf o) ≤ 91
+    go (refused w) = unfold lineOf in refused-most w
     go (ok t) = unfold lineOf most soundLine codes in omega arith
 
 -- it is the line, and nothing else

@@ -21,9 +21,9 @@ mostRead = 40961
 unfoldable pub judgedOf : List ℕ → Out Totals
 judgedOf s = need (leb (length s) mostInput) (because many) (checkOf s)
 
--- how many pages and shapes, or the refusal with its page, as a line
+-- how many pages and shapes, or the refusal with its place, as a line
 unfoldable pub lineOf : Out Totals → List Piece
-lineOf (refused w) = refusedLine (w .number) (w .page)
+lineOf (refused w) = refusedLine w
 lineOf (ok t) = soundLine (t .pages) (t .shapes)
 
 -- the line for the bytes

@@ -23,12 +23,12 @@ fn judged(input: &[u8]) -> Checked
 }
 
 // Puts the line for an input: where the next thing goes.
-pub fn put_line(input: &[u8], out: &mut [u8; 64]) -> usize
+pub fn put_line(input: &[u8], out: &mut [u8; 96]) -> usize
     ensures { λ r. ⌜ Puts (now (out .entry)) 0 (soundOf (now (input .entry))) r (now (out .exit)) ⌝ }
     ensures { λ r. ⌜ Counts r (now (out .exit)) ⌝ }
 {
     match judged(input) {
         Checked::Sound(t) => put_sound(out, 0, t.pages, t.shapes),
-        Checked::Refused(w) => put_refused(out, 0, w.number, w.page),
+        Checked::Refused(w) => put_refused(out, 0, w),
     }
 }

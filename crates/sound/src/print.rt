@@ -30,7 +30,7 @@ pub fn print(input: &[u8]) -> Printed
     ensures { λ r. ⌜ r .k ≡ length (printedOf (now (input .entry))) ⌝ }
 {
     let mut p = Printed { k: 0 };
-    let mut out = [0u8; 64];
+    let mut out = [0u8; 96];
     let n = put_line(input, &mut out);
     write(input, &out[..n], &mut p.k);
     p
