@@ -32,7 +32,7 @@ use Rattle.fetch.proofs.Accepted.{seat-within, seat-inside}
 use Rattle.writer.specs.Run.{Call, HalfWritten, TypedCalls, fileIn}
 use Rattle.promises.specs.Numbers as numbers
 use Rattle.promises.specs.Writing.{ended, taken, handedShapes}
-use Rattle.promises.proofs.Numbers.{plain-gives, contents-give}
+use Rattle.promises.proofs.Numbers.{by-listed, plain-gives, contents-give}
 use Rattle.promises.proofs.Writings.{closed-shapes}
 
 -- with room for it, fetch gives the shape at a place
@@ -67,7 +67,7 @@ listed-shape a s room l p w e h r q =
     go : (t : Seat) → t .index < t .held .head .g → (o : Out (List Shape)) → contentsOf (t .held .head) (t .held .body) ≡ o → shapeOf t ≡ refused w → ⊥
     go t i (refused v) c f =
         let n : v .number ≡ 17 = ap (λ (x : Refusal). x .number) (refused-inj (sym (seat-refused t v c) ∙ f)) ∙ q in
-        no-both refl (subst (λ (x : ℕ). listed x numbers.contents ≡ true) n (plain-gives numbers.contents _ (contents-give (t .held .head) (t .held .body)) .such v c))
+        no-both refl (subst (λ (x : ℕ). listed x numbers.contents ≡ true) n (by-listed numbers.contents v (plain-gives numbers.contents _ (contents-give (t .held .head) (t .held .body)) .such v c)))
     go t i (ok here) c f =
         let x = nth-some (t .index) here (omega (arith, i, contents-long (t .held .head) (t .held .body) here c)) in
         never (sym f ∙ seat-contents t here c ∙ x .1)

@@ -11,6 +11,9 @@ pub mod PassedBlocks
 pub mod OpenedPages
 pub mod Pages
 pub mod CallNumbers
+pub mod Values
+pub mod InPages
+pub mod Named
 pub mod Fetched
 pub mod FirstDemand
 pub mod SecondDemand

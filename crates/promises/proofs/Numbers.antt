@@ -1,17 +1,18 @@
 -- "Bad input is refused by one number from the table": each service gives no number but those of its line in document 01's "Order", for any input. `Plain`
 -- says beside it that the page number is 0, of all that knows no file. Nothing is assumed.
 use Prim.Native.Nat.{ℕ, zero, suc, _+_, _-_}
-use mathlib.Core.Path.{_≡_, refl, sym, subst}
-use mathlib.Core.Bool.{Bool, true, false, _||_}
+use mathlib.Core.Path.{_≡_, refl, sym, ap, subst}
+use mathlib.Core.Bool.{Bool, true, false, _&&_, _||_}
 use mathlib.Core.List.{List, [], _∷_}
 use lib.Dec.{eqb, leb, ltb}
 use lib.ListN.{length}
 use borrow.Author.Tests.{eqb-true}
 use Rattle.answer.specs.declared.Refusal.{Refusal}
 use Rattle.answer.specs.Table as table
-use Rattle.answer.specs.Refusal.{because}
+use Rattle.answer.specs.Axis as Axis
+use Rattle.answer.specs.Refusal.{because, atValue, onColumn, onPage}
 use Rattle.answer.specs.All.{allOf}
-use Rattle.answer.specs.Outcome.{Out, refused, ok, on, inPage}
+use Rattle.answer.specs.Outcome.{Out, refused, ok, on, inColumn, inPage}
 use Rattle.answer.proofs.Both.{no-both, both, both-l, both-r}
 use Rattle.block.specs.Block.{blockAt}
 use Rattle.column.specs.Write.{writeOf}
@@ -49,7 +50,7 @@ use Rattle.place.specs.Rows.{rowsAt, rowsIn, rowsOf}
 use Rattle.promises.specs.Refusing.{Refuses}
 use Rattle.search.specs.Listed.{listed}
 use Rattle.promises.specs.Numbers as numbers
-use Rattle.promises.specs.Numbers.{by, plain, Gives, Plain}
+use Rattle.promises.specs.Numbers.{tidy, by, plain, Gives, Plain}
 use Rattle.promises.specs.Pages.{NoPage}
 use Rattle.promises.proofs.Refusals.{ok-gives, refused-gives, need-gives, on-gives, marked-gives, cond-gives, rule-gives, so-gives}
 
@@ -69,31 +70,55 @@ among (m ∷ ns) ms h n e =
     go true z k f g = subst (λ (x : ℕ). listed x ms ≡ true) (sym (eqb-true n m z)) f
     go false z k f g = g k
 
+-- a number that is given is one of these
+pub by-listed : (ns : List ℕ) (w : Refusal) → by ns w → listed (w .number) ns ≡ true
+by-listed ns w k = both-l (listed (w .number) ns) (tidy w) k
+
+-- and where it is none of 8, 9 and 10 it names no column and no value
+pub by-tidy : (ns : List ℕ) (w : Refusal) → by ns w → tidy w ≡ true
+by-tidy ns w k = both-r (listed (w .number) ns) (tidy w) k
+
 wider : {A : Type 0} (ns ms : List ℕ) → every ns ms ≡ true → (o : Out A) → Gives ns o → Gives ms o
-wider ns ms h o g = so-gives (by ns) (by ms) o (λ w e k. among ns ms h (w .number) k) g
+wider ns ms h o g =
+    so-gives (by ns) (by ms) o (λ w e k. both (among ns ms h (w .number) (by-listed ns w k)) (by-tidy ns w k)) g
 
 -- ---- a plain refusal: its number, and page 0
 
+pub plain-listed : (ns : List ℕ) (w : Refusal) → plain ns w → listed (w .number) ns ≡ true
+plain-listed ns w k = both-l (listed (w .number) ns) (eqb (w .page) 0 && tidy w) k
+
+plain-rest : (ns : List ℕ) (w : Refusal) → plain ns w → (eqb (w .page) 0 && tidy w) ≡ true
+plain-rest ns w k = both-r (listed (w .number) ns) (eqb (w .page) 0 && tidy w) k
+
 plain-by : (ns : List ℕ) (w : Refusal) → plain ns w → by ns w
-plain-by ns w k = both-l (listed (w .number) ns) (eqb (w .page) 0) k
+plain-by ns w k = both (plain-listed ns w k) (both-r (eqb (w .page) 0) (tidy w) (plain-rest ns w k))
 
 pub plain-gives : {A : Type 0} (ns : List ℕ) (o : Out A) → Plain ns o → Gives ns o
 plain-gives ns o g = so-gives (plain ns) (by ns) o (λ w e k. plain-by ns w k) g
 
 pub plain-no-page : {A : Type 0} (ns : List ℕ) (o : Out A) → Plain ns o → NoPage o
-plain-no-page ns o g = so-gives (plain ns) _ o (λ w e k. eqb-true (w .page) 0 (both-r (listed (w .number) ns) (eqb (w .page) 0) k)) g
+plain-no-page ns o g = so-gives (plain ns) _ o (λ w e k. eqb-true (w .page) 0 (both-l (eqb (w .page) 0) (tidy w) (plain-rest ns w k))) g
 
 pub plainer : {A : Type 0} (ns ms : List ℕ) → every ns ms ≡ true → (o : Out A) → Plain ns o → Plain ms o
 plainer ns ms h o g =
     so-gives (plain ns) (plain ms) o
-    (λ w e k. both (among ns ms h (w .number) (plain-by ns w k)) (both-r (listed (w .number) ns) (eqb (w .page) 0) k)) g
+    (λ w e k. both (among ns ms h (w .number) (plain-listed ns w k)) (plain-rest ns w k)) g
 
 pub widened : {A : Type 0} (ns ms : List ℕ) → every ns ms ≡ true → (o : Out A) → Plain ns o → Gives ms o
 widened ns ms h o g = plain-gives ms o (plainer ns ms h o g)
 
 -- met in a page it keeps its number
 pub page-gives : {A : Type 0} (ns : List ℕ) (k : ℕ) (o : Out A) → Plain ns o → Gives ns (inPage k o)
-page-gives ns k o g = in-page-gives (by ns) k o (so-gives (plain ns) _ o (λ w e h. plain-by ns w h) g)
+page-gives ns k o g = marked-gives (by ns) (onPage k) o (so-gives (plain ns) _ o (λ w e h. plain-by ns w h) g)
+
+-- a column's bits met in a column of a page keep number and page
+column-gives : {A : Type 0} (c : ℕ) (o : Out A) → Plain numbers.columnBits o → Plain numbers.columnBits (inColumn c o)
+column-gives c o g = marked-gives (plain numbers.columnBits) (onColumn c) o (so-gives (plain numbers.columnBits) _ o (λ w e k. named w k) g)
+  where
+    named : (w : Refusal) → plain numbers.columnBits w → plain numbers.columnBits (onColumn c w)
+    named w k =
+        let l = plain-listed numbers.columnBits w k in
+        both l (both (both-l (eqb (w .page) 0) (tidy w) (plain-rest numbers.columnBits w k)) (ap (λ (t : Bool). t || (eqb c Axis.none && eqb (w .index) 0)) l))
 
 -- ---- columns
 
@@ -101,18 +126,26 @@ pub write-gives : (P : ℕ) (vs : List ℕ) (size : ℕ) → Plain numbers.colum
 unfolding writeOf listed
 write-gives P vs size = need-gives _ _ _ _ refl (need-gives _ _ _ _ refl (ok-gives _ _))
 
-ending-gives : {A : Type 0} (Such : Refusal → Type 0) (s : List ℕ) (e : ℕ) (o : Out A) → Such (because 9) → Such (because 10) → Refuses Such o → Refuses Such (endRules s e o)
+ending-gives : {A : Type 0} (Such : Refusal → Type 0) (s : List ℕ) (n e : ℕ) (o : Out A) → Such (atValue n (because 9)) → Such (atValue n (because 10)) → Refuses Such o
+    → Refuses Such (endRules s n e o)
 unfolding endRules
-ending-gives Such s e o h k g = need-gives _ _ _ _ h (need-gives _ _ _ _ k g)
+ending-gives Such s n e o h k g = need-gives _ _ _ _ h (need-gives _ _ _ _ k g)
 
 -- a column's bytes, whatever the room: 8, 9, 10
 some-gives : (P : ℕ) (s : List ℕ) (n : ℕ) → Plain numbers.columnBits (someOf P s n)
 unfolding someOf listed
-some-gives P s n = need-gives _ _ _ _ refl (need-gives _ _ _ _ refl (ending-gives _ _ _ _ refl refl (ok-gives _ _)))
+some-gives P s n = need-gives _ _ _ _ refl (need-gives _ _ _ _ refl (need-gives _ _ _ _ refl (ending-gives _ _ _ _ _ refl refl (ok-gives _ _))))
 
-decode-gives : (P : ℕ) (s : List ℕ) (n : ℕ) → Plain numbers.columnBits (decodeOf P s n)
+pub decode-gives : (P : ℕ) (s : List ℕ) (n : ℕ) → Plain numbers.columnBits (decodeOf P s n)
 unfolding decodeOf listed
-decode-gives P s n = cond-gives _ (eqb n 0) (endRules s 0 (ok [])) (someOf P s n) (ending-gives _ _ _ _ refl refl (ok-gives _ _)) (some-gives P s n)
+decode-gives P s n = cond-gives _ (eqb n 0) (endRules s 0 0 (ok [])) (someOf P s n) (ending-gives _ _ _ _ _ refl refl (ok-gives _ _)) (some-gives P s n)
+
+-- which names no column of a page
+pub decode-no-column : (P : ℕ) (s : List ℕ) (n : ℕ) → Refuses (λ w. w .column ≡ Axis.none) (decodeOf P s n)
+unfolding decodeOf someOf endRules
+decode-no-column P s n =
+    cond-gives _ (eqb n 0) _ _ (need-gives _ _ _ _ refl (need-gives _ _ _ _ refl (ok-gives _ _)))
+    (need-gives _ _ _ _ refl (need-gives _ _ _ _ refl (need-gives _ _ _ _ refl (need-gives _ _ _ _ refl (need-gives _ _ _ _ refl (ok-gives _ _))))))
 
 pub read-gives : (P : ℕ) (s : List ℕ) (n size : ℕ) → Plain numbers.columnRead (readOf P s n size)
 unfolding readOf listed allOf
@@ -120,14 +153,14 @@ read-gives P s n size = need-gives _ _ _ _ refl (need-gives _ _ _ _ refl (plaine
 
 next-gives : (P : ℕ) (s : List ℕ) (n : ℕ) → Plain numbers.columnStep (step.firstCall P s n)
 unfolding step.firstCall listed
-next-gives P s n = cond-gives _ (eqb n 0) (endRules s 0 (ok step.end)) _ (ending-gives _ _ _ _ refl refl (ok-gives _ _)) (need-gives _ _ _ _ refl (need-gives _ _ _ _ refl (need-gives _ _ _ _ refl (ok-gives _ _))))
+next-gives P s n = cond-gives _ (eqb n 0) (endRules s 0 0 (ok step.end)) _ (ending-gives _ _ _ _ _ refl refl (ok-gives _ _)) (need-gives _ _ _ _ refl (need-gives _ _ _ _ refl (need-gives _ _ _ _ refl (ok-gives _ _))))
 
 later-gives : (P : ℕ) (s : List ℕ) (n : ℕ) (p : Position) → Plain numbers.columnStep (step.laterCall P s n p)
 unfolding step.laterCall listed
 later-gives P s n p =
     need-gives _ _ _ _ refl
     (need-gives _ _ _ _ refl
-    (cond-gives _ (leb n (p .given)) (endRules s (p .at) (ok step.end)) _ (ending-gives _ _ _ _ refl refl (ok-gives _ _))
+    (cond-gives _ (leb n (p .given)) (endRules s n (p .at) (ok step.end)) _ (ending-gives _ _ _ _ _ refl refl (ok-gives _ _))
     (need-gives _ _ _ _ refl (need-gives _ _ _ _ refl (ok-gives _ _)))))
 
 pub step-gives : (P : ℕ) (s : List ℕ) (n : ℕ) (p : Position) → Plain numbers.columnStep (step.stepOf P s n p)
@@ -198,7 +231,7 @@ frame-gives s = on-gives _ _ _ (plain-gives numbers.frame _ (first-gives s)) (λ
 
 -- ---- a page's contents, and the full check
 
-outlines-give : (Such : Refusal → Type 0) (os : List Outline) (xs ys : List ℕ) → Such (because 12) → Such (because 13) → Such (because 14) → Such (because 15)
+pub outlines-give : (Such : Refusal → Type 0) (os : List Outline) (xs ys : List ℕ) → Such (because 12) → Such (because 13) → Such (because 14) → Such (because 15)
     → Refuses Such (outlineRules os xs ys)
 unfolding outlineRules finiteRule ringRule gridRule turnRule
 outlines-give Such os xs ys a b c d =
@@ -206,7 +239,7 @@ outlines-give Such os xs ys a b c d =
 
 vertices-give : (h : Head) (b : List ℕ) → Plain numbers.columnBits (verticesOf h b)
 unfolding verticesOf
-vertices-give h b = on-gives _ _ _ (decode-gives 64 _ (h .v)) (λ xs. on-gives _ _ _ (decode-gives 64 _ (h .v)) (λ ys. ok-gives _ _))
+vertices-give h b = on-gives _ _ _ (column-gives Axis.x _ (decode-gives 64 _ (h .v))) (λ xs. on-gives _ _ _ (column-gives Axis.y _ (decode-gives 64 _ (h .v))) (λ ys. ok-gives _ _))
 
 pub contents-give : (h : Head) (b : List ℕ) → Plain numbers.contents (contentsOf h b)
 unfolding contentsOf partsRule boxRule listed allOf

@@ -11,7 +11,7 @@ use lib.Dec.{ltb}
 use lib.ListN.{length, take, drop}
 use lib.Seq.{drop-nil, drop-drop}
 use Rattle.answer.specs.declared.Refusal.{Refusal}
-use Rattle.answer.specs.Refusal.{because, onPage}
+use Rattle.answer.specs.Refusal.{onPage}
 use Rattle.answer.specs.Outcome.{refused, ok, inPage}
 use Rattle.answer.proofs.Outcomes.{never, ok-inj, on-ok, marked-ok}
 use Rattle.extent.specs.Boxes.{patterns}
@@ -30,9 +30,9 @@ use Rattle.promises.specs.Pages.{IsPage, Passes, Before, InContents, eve
 use Rattle.promises.proofs.Refusals.{ok-gives, after-gives, on-gives, marked-gives, test-gives, so-gives}
 use Rattle.promises.proofs.Numbers.{plain-no-page, contents-give}
 
--- a refusal with page 0 is its number alone
-bare : (w : Refusal) → w .page ≡ 0 → w ≡ because (w .number)
-bare w z = λ i. record { number = w .number; page = z i }
+-- a refusal with page 0 is what it was before it had a page
+bare : (w : Refusal) → w .page ≡ 0 → w ≡ onPage 0 w
+bare w z = λ i. record { number = w .number; column = w .column; index = w .index; page = z i }
 
 -- behind the page that is reached stand the others
 next-pages : (all : List Page) (k : ℕ) (p : Page) (ps : List Page) → drop k all ≡ p ∷ ps → drop (suc k) all ≡ ps
@@ -65,7 +65,7 @@ module _ (Opens : ℕ → Page → Type 0) (all : List Page) (k : ℕ) (p : Page
   -- the contents of a page that is opened
   pub here-refused : Opens k p → Before Opens all k → Refuses (InContents Opens all) (inPage k (contentsOf (p .head) (p .body)))
   here-refused o b =
-      in-page-gives _ k _
+      marked-gives _ (onPage k) _
       (so-gives _ _ (contentsOf (p .head) (p .body))
       (λ w e z. record {
         page = p;

@@ -3,8 +3,8 @@ use Prim.Native.Nat.{ℕ}
 use mathlib.Core.Path.{_≡_, refl, sym, subst}
 use mathlib.Core.Bool.{Bool, true, false, cond}
 use Rattle.answer.specs.declared.Refusal.{Refusal}
-use Rattle.answer.specs.Refusal.{because, onPage}
-use Rattle.answer.specs.Outcome.{Out, refused, ok, need, on, inPage, marked}
+use Rattle.answer.specs.Refusal.{because}
+use Rattle.answer.specs.Outcome.{Out, refused, ok, need, on, marked}
 use Rattle.answer.specs.Rule.{rule}
 use Rattle.answer.proofs.Outcomes.{never, refused-inj}
 use Rattle.promises.specs.Refusing.{Refuses}
@@ -16,10 +16,14 @@ module _ {A : Type 0} (Such : Refusal → Type 0) where
   pub refused-gives : (w : Refusal) → Such w → Refuses {A = A} Such (refused w)
   refused-gives w h = record { such = λ v e. subst Such (refused-inj e) h }
 
-pub need-gives : {A : Type 0} (Such : Refusal → Type 0) (b : Bool) (w : Refusal) (o : Out A) → Such w → Refuses Such o → Refuses Such (need b w o)
+-- either may count on the test
+pub asked-gives : {A : Type 0} (Such : Refusal → Type 0) (b : Bool) (w : Refusal) (o : Out A) → (b ≡ false → Such w) → (b ≡ true → Refuses Such o) → Refuses Such (need b w o)
 unfolding need
-need-gives Such true w o h g = g
-need-gives Such false w o h g = refused-gives Such w h
+asked-gives Such true w o h g = g refl
+asked-gives Such false w o h g = refused-gives Such w (h refl)
+
+pub need-gives : {A : Type 0} (Such : Refusal → Type 0) (b : Bool) (w : Refusal) (o : Out A) → Such w → Refuses Such o → Refuses Such (need b w o)
+need-gives Such b w o h g = asked-gives Such b w o (λ e. h) (λ e. g)
 
 -- what comes after may count on the value before it
 pub after-gives : {A B : Type 0} (Such : Refusal → Type 0) (o : Out A) (f : A → Out B) → Refuses Such o → ((a : A) → o ≡ ok a → Refuses Such (f a)) → Refuses Such (on o f)
@@ -30,11 +34,11 @@ after-gives Such (ok a) f g h = h a refl
 pub on-gives : {A B : Type 0} (Such : Refusal → Type 0) (o : Out A) (f : A → Out B) → Refuses Such o → ((a : A) → Refuses Such (f a)) → Refuses Such (on o f)
 on-gives Such o f g h = after-gives Such o f g (λ a e. h a)
 
--- what is refused in a page has that page
-pub in-page-gives : {A : Type 0} (Such : Refusal → Type 0) (k : ℕ) (o : Out A) → Refuses (λ w. Such (onPage k w)) o → Refuses Such (inPage k o)
+-- what is refused is marked with where it was met
+pub marked-gives : {A : Type 0} (Such : Refusal → Type 0) (f : Refusal → Refusal) (o : Out A) → Refuses (λ w. Such (f w)) o → Refuses Such (marked f o)
 unfolding marked
-in-page-gives Such k (refused w) g = refused-gives Such (onPage k w) (g .such w refl)
-in-page-gives Such k (ok a) g = ok-gives Such a
+marked-gives Such f (refused w) g = refused-gives Such (f w) (g .such w refl)
+marked-gives Such f (ok a) g = ok-gives Such a
 
 -- either way may count on its test
 pub test-gives : {A : Type 0} (Such : Refusal → Type 0) (b : Bool) (o p : Out A) → (b ≡ true → Refuses Such o) → (b ≡ false → Refuses Such p) → Refuses Such (cond b o p)

@@ -6,9 +6,10 @@ use native.Mathlib.Nat.{le-refl}
 use native.Mathlib.Omega.{arith}
 use lib.ListN.{length}
 use Rattle.answer.specs.Table as table
-use Rattle.answer.specs.Refusal.{onPage}
+use Rattle.answer.specs.Axis as Axis
+use Rattle.answer.specs.Refusal.{onColumn, onPage}
 use Rattle.answer.specs.Outcome.{ok, inPage, marked}
-use Rattle.answer.proofs.Outcomes.{ok-inj, on-ok, marked-ok}
+use Rattle.answer.proofs.Outcomes.{ok-inj, on-ok, marked-value, marked-ok}
 use Rattle.answer.proofs.Rules.{rule-holds, rule-ok}
 use Rattle.answer.proofs.Both.{both}
 use Rattle.le.specs.Number.{bytesOf, Bytes}
@@ -30,7 +31,7 @@ use Rattle.frame.specs.Frame as frame
 use Rattle.frame.specs.Whole.{AllSay, none, more, blockOf, pageBlocks, endBlock, fileOf}
 use Rattle.frame.proofs.Heads.{head-is, head-limits}
 use Rattle.frame.proofs.Wholes.{frame-is, is-frame}
-use Rattle.page.specs.Contents.{typesOf, countsOf, lensOf, xPart, yPart, Vertices, verticesOf, contentsOf}
+use Rattle.page.specs.Contents.{typesOf, countsOf, lensOf, xPart, yPart, Vertices, columnOf, verticesOf, contentsOf}
 use Rattle.answer.proofs.Orders.{on-value}
 use Rattle.file.specs.File.{pagesOf, shapesIn}
 use Rattle.file.specs.Check.{checkOf}
@@ -59,7 +60,7 @@ module _ (h : Head) (b : List ℕ) (shapes : List Shape) (few : h .v ≤ 2048) w
       let os = outlinesIn h b (p .xs) (p .ys) in
       let x = column-read (xPart h b) (h .v) (p .xs) few (record { column = p .x-column; patterns = p .x-patterns; count = p .x-count; few = few; enough = le-refl (h .v) }) in
       let y = column-read (yPart h b) (h .v) (p .ys) few (record { column = p .y-column; patterns = p .y-patterns; count = p .y-count; few = few; enough = le-refl (h .v) }) in
-      let v : verticesOf h b ≡ ok (record { xs = p .xs; ys = p .ys }) = on-value (decodeOf 64 (xPart h b) (h .v)) _ (p .xs) x ∙ on-value (decodeOf 64 (yPart h b) (h .v)) _ (p .ys) y in
+      let v : verticesOf h b ≡ ok (record { xs = p .xs; ys = p .ys }) = on-value (columnOf Axis.x (xPart h b) (h .v)) _ (p .xs) (marked-value (onColumn Axis.x) (p .xs) x) ∙ on-value (columnOf Axis.y (yPart h b) (h .v)) _ (p .ys) (marked-value (onColumn Axis.y) (p .ys) y) in
       let r : outlineRules os (p .xs) (p .ys) ≡ ok tt =
       on-value (finiteRule (p .xs) (p .ys)) _ tt (rule-holds _ table.finite (both (p .x-finite) (p .y-finite)))
       ∙ on-value (ringRule os) _ tt (rule-holds _ table.ring (p .closed))
@@ -77,14 +78,14 @@ module _ (h : Head) (b : List ℕ) (shapes : List Shape) (few : h .v ≤ 2048) w
   page-sound yx yy e =
       let parts = on-ok (partsRule (typesOf h b) (countsOf h b) (lensOf h b) (h .v)) _ shapes e in
       let vertices = on-ok (verticesOf h b) _ shapes (parts .2) in
-      let x = on-ok (decodeOf 64 (xPart h b) (h .v)) _ (vertices .0) (vertices .1) in
-      let y = on-ok (decodeOf 64 (yPart h b) (h .v)) _ (vertices .0) (x .2) in
+      let x = on-ok (columnOf Axis.x (xPart h b) (h .v)) _ (vertices .0) (vertices .1) in
+      let y = on-ok (columnOf Axis.y (yPart h b) (h .v)) _ (vertices .0) (x .2) in
       let xs = vertices .0 .xs in
       let ys = vertices .0 .ys in
       let xs-are : x .0 ≡ xs = ap (λ (t : Vertices). t .xs) (ok-inj (y .2)) in
       let ys-are : y .0 ≡ ys = ap (λ (t : Vertices). t .ys) (ok-inj (y .2)) in
-      let xh = column-held (xPart h b) (h .v) xs few yx (rw (← xs-are) (x .1)) in
-      let yh = column-held (yPart h b) (h .v) ys few yy (rw (← ys-are) (y .1)) in
+      let xh = column-held (xPart h b) (h .v) xs few yx (rw (← xs-are) (marked-ok (onColumn Axis.x) _ (x .0) (x .1))) in
+      let yh = column-held (yPart h b) (h .v) ys few yy (rw (← ys-are) (marked-ok (onColumn Axis.y) _ (y .0) (y .1))) in
       let os = outlinesIn h b xs ys in
       let rules = on-ok (outlineRules os xs ys) _ shapes (vertices .2) in
       let finite = on-ok (finiteRule xs ys) _ (rules .0) (rules .1) in

@@ -9,10 +9,10 @@ use Rattle.entry.specs.Entry.{entries, sizeAt, valueAt, after, values}
 use Rattle.width.specs.Width.{zsAfter, zsOf, fulls, S, least, widthOf}
 use Rattle.column.specs.Column.{asBytes, columnAt, encodeAt, encode}
 use Rattle.column.specs.Write.{writeOf}
-use Rattle.column.specs.Read.{saidBy, endOf, endRules, someOf, decodeOf, readOf}
+use Rattle.column.specs.Read.{saidBy, endOf, entriesWithin, heldOf, endRules, someOf, decodeOf, readOf}
 use Rattle.promises.specs.Worked.{EachHolds, last, then, workedRows}
 
 pub worked : (b : ℕ) → EachHolds (workedRows b)
-unfolding need number bytesOf zigzag unzigzag pack bits entries sizeAt valueAt after values zsAfter zsOf fulls S least widthOf asBytes columnAt encodeAt encode writeOf saidBy endOf endRules someOf decodeOf readOf
+unfolding need number bytesOf zigzag unzigzag pack bits entries sizeAt valueAt after values zsAfter zsOf fulls S least widthOf asBytes columnAt encodeAt encode writeOf saidBy endOf entriesWithin heldOf endRules someOf decodeOf readOf
 worked b =
     then refl (then refl (then refl (then refl (then refl (then refl (then refl (then refl (then refl (then refl (then refl (then refl (then refl (then refl (then refl (then refl (then refl (then refl (then refl (then refl last)))))))))))))))))))

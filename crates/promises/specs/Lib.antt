@@ -5,6 +5,7 @@ pub mod Sample
 pub mod SoundFile
 pub mod Writing
 pub mod Refusing
+pub mod Values
 pub mod Numbers
 pub mod Pages
 pub mod Obeying

@@ -1,21 +1,31 @@
--- Which refusal numbers a service can give: the lists of document 01's "Order". Assumes nothing.
+-- Which refusal numbers a service can give: the lists of document 01's "Order"; and by which of them a refusal may name a column and a value. Assumes
+-- nothing.
 use Prim.Native.Nat.{ℕ}
 use mathlib.Core.Path.{_≡_}
-use mathlib.Core.Bool.{true, _&&_}
+use mathlib.Core.Bool.{Bool, true, _&&_, _||_}
 use mathlib.Core.List.{List, [], _∷_, _++_}
 use lib.Dec.{eqb}
 use Rattle.answer.specs.declared.Refusal.{Refusal}
+use Rattle.answer.specs.Axis as Axis
 use Rattle.answer.specs.Outcome.{Out}
 use Rattle.search.specs.Listed.{listed}
 use Rattle.promises.specs.Refusing.{Refuses}
 
+-- a column's bits: 8, 9, 10
+abbrev pub columnBits : List ℕ
+columnBits = 8 ∷ 9 ∷ 10 ∷ []
+
+-- "other refusals give index 0 and no column"
+abbrev pub tidy : Refusal → Bool
+tidy w = listed (w .number) columnBits || (eqb (w .column) Axis.none && eqb (w .index) 0)
+
 -- a refusal by one of these numbers
 abbrev pub by : List ℕ → Refusal → Type 0
-by ns w = listed (w .number) ns ≡ true
+by ns w = (listed (w .number) ns && tidy w) ≡ true
 
 -- and which concerns no page: its page number is 0
 abbrev pub plain : List ℕ → Refusal → Type 0
-plain ns w = (listed (w .number) ns && eqb (w .page) 0) ≡ true
+plain ns w = (listed (w .number) ns && (eqb (w .page) 0 && tidy w)) ≡ true
 
 -- whatever refusal an outcome is, its number is one of these
 abbrev pub Gives : {A : Type 0} → List ℕ → Out A → Type 0
@@ -28,10 +38,6 @@ Plain ns o = Refuses (plain ns) o
 -- "Column write: 3, 2"
 abbrev pub columnWrite : List ℕ
 columnWrite = 3 ∷ 2 ∷ []
-
--- a column's bits: 8, 9, 10
-abbrev pub columnBits : List ℕ
-columnBits = 8 ∷ 9 ∷ 10 ∷ []
 
 -- "Column read: 3, 2, then 8, 9, 10"
 abbrev pub columnRead : List ℕ

@@ -6,7 +6,7 @@ use mathlib.Core.Bool.{true}
 use mathlib.Core.List.{List, _∷_, _++_}
 use lib.ListN.{length, take, drop}
 use Rattle.answer.specs.declared.Refusal.{Refusal}
-use Rattle.answer.specs.Refusal.{because}
+use Rattle.answer.specs.Refusal.{onPage}
 use Rattle.answer.specs.Outcome.{Out, refused, ok}
 use Rattle.le.specs.Number.{bytesOf}
 use Rattle.extent.specs.Boxes.{patterns}
@@ -63,13 +63,13 @@ pub record Passes (p : Page) : Type 0 where
 pub record Before (Opens : ℕ → Page → Type 0) (ps : List Page) (k : ℕ) : Type 0 where
   pub passes : (j : ℕ) (p : Page) → j < k → IsPage ps j p → Opens j p → Passes p
 
--- the page that a refusal of contents refuses: the one with the page number, which the service opens; its contents are refused by that number, and the
--- pages opened before it pass
+-- the page that a refusal of contents refuses: the one with the page number, which the service opens; its contents are refused by the same refusal, which
+-- knows no page yet, and the pages opened before it pass
 pub record InContents (Opens : ℕ → Page → Type 0) (ps : List Page) (w : Refusal) : Type 0 where
   pub page : Page
   pub numbered : IsPage ps (w .page) page
   pub opened : Opens (w .page) page
-  pub refusal : contentsOf (page .head) (page .body) ≡ refused (because (w .number))
+  pub refusal : contentsOf (page .head) (page .body) ≡ refused (onPage 0 w)
   pub before : Before Opens ps (w .page)
 
 -- ---- which pages of the file's pages ps a service opens: p, which is page k

@@ -4,7 +4,7 @@ use mathlib.Core.Path.{_≡_}
 use mathlib.Core.List.{List, [], _∷_, _++_}
 use lib.ListN.{length, replicate}
 use Rattle.answer.specs.Table as Table
-use Rattle.answer.specs.Refusal.{because}
+use Rattle.answer.specs.Refusal.{because, atValue}
 use Rattle.answer.specs.Outcome.{Out, refused, ok}
 use Rattle.entry.specs.Step.{zOf, marker}
 use Rattle.entry.specs.Fields.{bits}
@@ -73,7 +73,7 @@ workedRows b =
     ∷ steps 0 (2 ^ 63) (2 ^ 64 - 1)
     ∷ takes (0 ∷ 2 ^ 63 ∷ []) 0
     ∷ reads (3 ∷ 00x8 ++ (2 ∷ [])) 2 (ok (0 ∷ 1 ∷ []))
-    ∷ reads (2 ∷ 00x8 ++ (6 ∷ [])) 2 (refused (because Table.fill))
+    ∷ reads (2 ∷ 00x8 ++ (6 ∷ [])) 2 (refused (atValue 2 (because Table.fill)))
     ∷ reads (0x41 ∷ 00x8 ++ (0 ∷ [])) 2 (refused (because Table.width))
-    ∷ reads (2 ∷ 00x8) 2 (refused (because Table.bits))
+    ∷ reads (2 ∷ 00x8) 2 (refused (atValue 1 (because Table.bits)))
     ∷ []
