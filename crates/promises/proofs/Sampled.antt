@@ -7,7 +7,7 @@ use Rattle.le.specs.Number.{number, numberAt, numbersEach, bytesOf, runOf}
 use Rattle.block.specs.Block.{presentAt, blockAt, blockHead}
 use Rattle.entry.specs.Step.{unzigzag}
 use Rattle.entry.specs.Entry.{sizeAt, valueAt, after, values}
-use Rattle.column.specs.Read.{saidBy, endOf, endRules, someOf, decodeOf}
+use Rattle.column.specs.Read.{saidBy, endOf, entriesWithin, heldOf, endRules, someOf, decodeOf}
 use Rattle.extent.specs.Rank.{rank, finite, atMost, below, sameValue}
 use Rattle.extent.specs.Boxes.{boundsAt, fourFinite, inOrder, goodForm, sameBox, meets, lesser, greater, leastOf, greatestOf, boxOf}
 use lib.Ieee.{ofBits, toBits, ofFields}
@@ -33,7 +33,7 @@ use Rattle.search.specs.Search.{placesOf, hitsFrom, pageHits, metOf, metIn, hit
 use Rattle.place.specs.Seek.{seekIn}
 use Rattle.place.specs.Row.{rowOf}
 use Rattle.place.specs.Rows.{rowsAt, rowsIn}
-use Rattle.promises.specs.Sample.{sample, Found, Listable}
+use Rattle.promises.specs.Sample.{sample, Found, Listable, Worn}
 
 -- two pages, four shapes
 pub sample-sound : checkOf sample ≡ ok (record { pages = 2; shapes = 4; first = firstCursor 1 })
@@ -49,3 +49,8 @@ sample-found = (refl, refl, refl, refl, refl)
 pub sample-listable : Listable
 unfolding need on marked rule number numberAt numbersEach presentAt blockAt unzigzag sizeAt valueAt after values saidBy endOf endRules someOf decodeOf rank finite atMost below sameValue fourFinite inOrder goodForm sameBox lesser greater leastOf greatestOf boxOf allOf typeRow total fits lengthsFit rowAgrees shapeAgrees partsAgree partsHold partsRule ofBits toBits ofFields onGrid wholeOf turnOf clockwise zeroTurn outlinesOf partsOf registered finiteRule endsMeet closedRing ringsClosed ringRule onGridShape gridRule ringTurn turnNotZero firstClockwise ringsTurned turnsHold turnRule boxHolds boxRule each layoutOf countsOk boundsAt allZero boxOk sizedHead page.headOf asFirst firstOf asPage asEnd byKind nextOf walk frameOf frame.shapesOf registersOf typesOf countsOf lensOf xPart yPart verticesOf outlineRules contentsOf runOf bytesOf blockHead meets instead bodyLen lenOf blockLen spotAsked windowAsked asked askOf goodQuery reachOf stored inWindow touches hit opens placesOf hitsFrom pageHits metOf metIn hitsOf searchOf seekIn rowOf rowsAt rowsIn
 sample-listable = (refl, refl, refl)
+
+-- and where the search says that a worn one is
+pub sample-worn : Worn
+unfolding need on marked rule number numberAt numbersEach presentAt blockAt unzigzag sizeAt valueAt after values saidBy endOf entriesWithin heldOf endRules someOf decodeOf rank finite atMost below sameValue fourFinite inOrder goodForm sameBox lesser greater leastOf greatestOf boxOf allOf typeRow total fits lengthsFit rowAgrees shapeAgrees partsAgree partsHold partsRule ofBits toBits ofFields onGrid wholeOf turnOf clockwise zeroTurn outlinesOf partsOf registered finiteRule endsMeet closedRing ringsClosed ringRule onGridShape gridRule ringTurn turnNotZero firstClockwise ringsTurned turnsHold turnRule boxHolds boxRule each layoutOf countsOk boundsAt allZero boxOk sizedHead page.headOf asFirst firstOf asPage asEnd byKind nextOf walk frameOf frame.shapesOf registersOf typesOf countsOf lensOf xPart yPart verticesOf outlineRules contentsOf runOf bytesOf blockHead meets instead bodyLen lenOf blockLen spotAsked windowAsked asked askOf goodQuery reachOf stored inWindow touches hit opens placesOf hitsFrom pageHits metOf metIn hitsOf searchOf
+sample-worn = (refl, refl)

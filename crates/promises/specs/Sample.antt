@@ -1,12 +1,13 @@
 -- The sample file of document 01, byte by byte: "Page 0: register 101, Polygon (0,0) (0,10) (10,10) (10,0) (0,0); register 102, Point (20,5).
 -- Page 1: register 101, LineString (-5,-5) (-1,-1); register 103, empty." The bytes were worked out from the document apart from the code.
 -- Assumes nothing.
-use Prim.Native.Nat.{ℕ}
+use Prim.Native.Nat.{ℕ, suc}
 use mathlib.Core.Path.{_≡_}
-use mathlib.Core.List.{List, [], _∷_}
-use lib.ListN.{take}
-use Rattle.answer.specs.Table.{lengths}
-use Rattle.answer.specs.Refusal.{because, onPage}
+use mathlib.Core.List.{List, [], _∷_, _++_}
+use lib.ListN.{take, drop}
+use Rattle.answer.specs.Axis as Axis
+use Rattle.answer.specs.Table.{lengths, bits}
+use Rattle.answer.specs.Refusal.{because, atValue, onColumn, onPage}
 use Rattle.answer.specs.Outcome.{Out, refused, ok, on}
 use Rattle.query.specs.Block.{askOf, blockWith}
 use Rattle.frame.specs.Frame.{frameOf, shapesOf}
@@ -167,3 +168,15 @@ Listable =
     (rowsIn sample (0 ∷ []) ≡ ok (record { register = 101; kind = 3 } ∷ []))
     × (on (frameOf sample) (λ f. ok (shapesOf (f .pages))) ≡ ok 4)
     × (on (askOf (blockWith window)) (λ a. searchOf a cut 4096) ≡ refused (onPage 2 (because lengths)))
+
+-- ---- the sample, worn: a byte of page 1 has become 64
+
+-- the byte at a place
+abbrev pub wornAt : ℕ → List ℕ
+wornAt k = take k sample ++ (64 ∷ drop (suc k) sample)
+
+-- that of the width of the x column, and of the y column: with 64 bits for its one step each lacks bits at its second value
+abbrev pub Worn : Type 0
+Worn =
+    (on (askOf (blockWith [])) (λ a. searchOf a (wornAt 214) 4096) ≡ refused (onPage 1 (onColumn Axis.x (atValue 1 (because bits)))))
+    × (on (askOf (blockWith [])) (λ a. searchOf a (wornAt 230) 4096) ≡ refused (onPage 1 (onColumn Axis.y (atValue 1 (because bits)))))
