@@ -79,11 +79,12 @@ cut-prints =
 -- where in the page, for a worn column of the sample: x, and y
 pub worn-prints : (printedOf (blockWith [] ++ wornAt 214) ≡ codes "refused 9 page 1 column x value 1\n")
     × (printedOf (blockWith [] ++ wornAt 230) ≡ codes "refused 9 page 1 column y value 1\n")
-worn-prints =
-    (refused-prints [] (wornAt 214) _ _ (sample-found .4) (omega arith) (sample-worn .0)
-    ∙ unfold digitsOf decimal codes pieceBytes textOf columnWords whereWords refusedLine linesOf in refl,
-    refused-prints [] (wornAt 230) _ _ (sample-found .4) (omega arith) (sample-worn .1)
-    ∙ unfold digitsOf decimal codes pieceBytes textOf columnWords whereWords refusedLine linesOf in refl)
+worn-prints = (
+  refused-prints [] (wornAt 214) _ _ (sample-found .4) (omega arith) (sample-worn .0)
+      ∙ unfold digitsOf decimal codes pieceBytes textOf columnWords whereWords refusedLine linesOf in refl,
+  refused-prints [] (wornAt 230) _ _ (sample-found .4) (omega arith) (sample-worn .1)
+      ∙ unfold digitsOf decimal codes pieceBytes textOf columnWords whereWords refusedLine linesOf in refl,
+)
 
 pub nothing-prints : printedOf [] ≡ codes "refused 1 page 0\n"
 nothing-prints =

@@ -46,10 +46,10 @@ fn second_page(w: Writer, file: &mut [u8]) -> Stepped {
     w.page(file, &registers, &types, &counts, &lens, &xs, &ys)
 }
 
-// "refused R page P".
+// The refused line.
 fn say_refused(w: Refusal) {
-    let mut out = [0u8; 64];
-    let k = put_refused(&mut out, 0, w.number, w.page);
+    let mut out = [0u8; 96];
+    let k = put_refused(&mut out, 0, w);
     io::write_all(STDOUT_FILENO, &out[..k]);
 }
 

@@ -57,9 +57,10 @@ misfit-requires c κs =
     let wide = c .before .before .before .before .before .before .wide in
     let if4 = c .before .before .before .before .before .if4 in
     let fill = c .before .before .before .fill in
-    let st = c .before .before .before .before .before .before .before .before .before .before .before .before in
-    ((wide .ensures, if4 .left, omega (arith, if1 .left), st .pre .0),
-    (omega (arith, if3 .left), ap (λ (e : ℕ). (e + 7) / 8) (fill .ensures .0), omega (arith, fill .ensures .1 .1), c .if5 .taken))
+    let st = c .before .before .before .before .before .before .before .before .before .before .before .before in (
+      (wide .ensures, if4 .left, omega (arith, if1 .left), st .pre .0),
+      (omega (arith, if3 .left), ap (λ (e : ℕ). (e + 7) / 8) (fill .ensures .0), omega (arith, fill .ensures .1 .1), c .if5 .taken),
+    )
 
 same-length : tie.Need-same-length
 same-length c = search needs
