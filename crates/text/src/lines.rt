@@ -76,8 +76,8 @@ pub fn put_refused(out: &mut [u8], at: usize, w: Refusal) -> usize
     let b = put_number(out, a, w.number as u64);
     let c = put_words(out, b, b" page ");
     let d = put_number(out, c, w.page as u64);
-    let e = put_where(out, d, w.column, w.index);
-    put_words(out, e, b"\n")
+    let end = put_where(out, d, w.column, w.index);
+    put_words(out, end, b"\n")
 }
 
 // Puts "sound P pages M shapes": where the next thing goes.
