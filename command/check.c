@@ -16,7 +16,7 @@
 static enum status say(const struct source *source, uint64_t word)
 {
     if (BOUNDARY_NUMBER(word) != 0) {
-        refusal_print(stdout, source->name, word);
+        refusal_print(stdout, source, word);
         return refusal_status(word);
     }
     name_print(stdout, source->name);

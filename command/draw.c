@@ -155,7 +155,7 @@ enum status draw_run(int count, char **words)
     enum status status;
     uint64_t word = boundary_check(source.bytes, source.len);
     if (BOUNDARY_NUMBER(word) != 0) {
-        refusal_print(stderr, source.name, word);
+        refusal_print(stderr, &source, word);
         status = refusal_status(word);
     } else {
         status = draw_checked(&source, &asked.query);

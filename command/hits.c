@@ -18,7 +18,7 @@ bool hits_find(struct hits *hits, const struct source *source, const struct quer
         return false;
     uint64_t word = boundary_search(block, len, source->bytes, source->len, hits->places, BOUNDARY_MOST_SHAPES);
     if (BOUNDARY_NUMBER(word) != 0) {
-        refusal_print(stderr, source->name, word);
+        refusal_print(stderr, source, word);
         *status = refusal_status(word);
         hits_free(hits);
         return false;

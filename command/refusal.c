@@ -5,9 +5,11 @@
 
 #include "boundary.h"
 #include "name.h"
+#include "vertex.h"
 
-/* What the page number of a refusal says: nothing, the page at fault, or how many pages were passed before the block at fault. */
-enum where { NOWHERE, ON_PAGE, AFTER_PAGES };
+/* What a refusal says of where it is: nothing; the page at fault; how many pages were passed before the block at fault; or the page at
+ * fault with its column, as a whole or at a value. */
+enum where { NOWHERE, ON_PAGE, AFTER_PAGES, IN_COLUMN, AT_VALUE };
 
 struct sentence {
     enum where where;
@@ -30,11 +32,12 @@ static const struct sentence sentences[] = {
     [BOUNDARY_REFUSED_BOX_FORM] = {ON_PAGE, STATUS_REFUSED,
         "the page's box is not finite or is reversed, or is not all zero where the page has no vertex. Have the page written again: least x, least y, greatest x, "
         "greatest y."},
-    [BOUNDARY_REFUSED_WIDTH] = {ON_PAGE, STATUS_REFUSED, "the width of a column is over 64. The page is damaged: take a fresh copy of the file."},
-    [BOUNDARY_REFUSED_BITS] = {ON_PAGE, STATUS_REFUSED,
-        "a column has too few bits, or a whole byte too many. The page is damaged: take a fresh copy of the file."},
-    [BOUNDARY_REFUSED_FILL] = {ON_PAGE, STATUS_REFUSED,
-        "the bits that fill a column's last byte are not zero. The page is damaged, or its writer leaves bits behind: take a fresh copy, or have the page written again."},
+    [BOUNDARY_REFUSED_WIDTH] = {IN_COLUMN, STATUS_REFUSED,
+        "the width of the column is over 64. The page is damaged: take a fresh copy of the file."},
+    [BOUNDARY_REFUSED_BITS] = {AT_VALUE, STATUS_REFUSED,
+        "the column has too few bits, or a whole byte too many. The page is damaged: take a fresh copy of the file."},
+    [BOUNDARY_REFUSED_FILL] = {IN_COLUMN, STATUS_REFUSED,
+        "the bits that fill the column's last byte are not zero. The page is damaged, or its writer leaves bits behind: take a fresh copy, or have the page written again."},
     [BOUNDARY_REFUSED_PARTS] = {ON_PAGE, STATUS_REFUSED,
         "a type is over 6, or parts and vertices do not fit the types. Give each shape the parts that its type asks for (a ring has at least 4 vertices, a line 2), and "
         "have the page written again."},
@@ -61,16 +64,57 @@ static const struct sentence *sentence_of(uint32_t number)
     return &sentences[number];
 }
 
-void refusal_print(FILE *out, const char *name, uint64_t word)
+/* The sentence of number 9, by what the value is at which reading stopped: its bits are lacking, or bytes are left behind the last. */
+static const struct sentence *bits_sentence(enum vertex_found found)
 {
-    uint32_t number = BOUNDARY_NUMBER(word), page = BOUNDARY_PAGE(word);
-    const struct sentence *sentence = sentence_of(number);
-    name_print(out, name);
-    fprintf(out, ": refused (%" PRIu32 ")", number);
-    if (sentence->where == ON_PAGE)
-        fprintf(out, ", page %" PRIu32, page);
-    if (sentence->where == AFTER_PAGES)
+    static const struct sentence lacking = {AT_VALUE, STATUS_REFUSED,
+        "the column has too few bits: they end before that value is complete. The page is damaged: take a fresh copy of the file."};
+    static const struct sentence left = {IN_COLUMN, STATUS_REFUSED,
+        "the column has a whole byte too many, or more, behind its last value. The page is damaged: take a fresh copy of the file."};
+    if (found == VERTEX_LOST)
+        return sentence_of(BOUNDARY_REFUSED_BITS);
+    return found == VERTEX_FOUND ? &lacking : &left;
+}
+
+/* Prints the column of a refusal, where it has one: as a whole, or with the value and, where it was found, the vertex that this is. */
+static void print_column(FILE *out, uint64_t word, enum where where, const struct vertex *vertex)
+{
+    static const char *const names[] = {[BOUNDARY_COLUMN_X] = "x", [BOUNDARY_COLUMN_Y] = "y"};
+    uint32_t column = BOUNDARY_COLUMN(word);
+    if (column >= sizeof names / sizeof names[0] || names[column] == NULL)
+        return;
+    fprintf(out, ", column %s", names[column]);
+    if (where == IN_COLUMN)
+        fputs(" as a whole", out);
+    else
+        fprintf(out, ", value %" PRIu32, BOUNDARY_INDEX(word));
+    if (vertex != NULL)
+        fprintf(out, " (place %" PRIu64 ", register %" PRIu32 ", part %" PRIu32 ", vertex %" PRIu32 ", counted from 0)", vertex->place,
+                vertex->register_number, vertex->part, vertex->vertex);
+}
+
+/* Prints where a refusal is. */
+static void print_where(FILE *out, uint64_t word, enum where where, const struct vertex *vertex)
+{
+    uint32_t page = BOUNDARY_PAGE(word);
+    if (where == AFTER_PAGES)
         fprintf(out, ", after %" PRIu32 " page%s", page, page == 1 ? "" : "s");
+    else if (where != NOWHERE)
+        fprintf(out, ", page %" PRIu32, page);
+    if (where == IN_COLUMN || where == AT_VALUE)
+        print_column(out, word, where, vertex);
+}
+
+void refusal_print(FILE *out, const struct source *source, uint64_t word)
+{
+    uint32_t number = BOUNDARY_NUMBER(word);
+    bool bits = number == BOUNDARY_REFUSED_BITS;
+    struct vertex vertex;
+    enum vertex_found found = bits ? vertex_find(source, BOUNDARY_PAGE(word), BOUNDARY_INDEX(word), &vertex) : VERTEX_LOST;
+    const struct sentence *sentence = bits ? bits_sentence(found) : sentence_of(number);
+    name_print(out, source->name);
+    fprintf(out, ": refused (%" PRIu32 ")", number);
+    print_where(out, word, sentence->where, found == VERTEX_FOUND ? &vertex : NULL);
     fprintf(out, ": %s\n", sentence->text);
 }
 

@@ -36,7 +36,7 @@ static enum status show_asked(const struct source *source, const struct asked *a
     if (BOUNDARY_NUMBER(word) == 0) {
         print_shape(&shape, asked->form);
     } else {
-        refusal_print(stderr, source->name, word);
+        refusal_print(stderr, source, word);
         status = refusal_status(word);
     }
     free(rooms);

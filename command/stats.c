@@ -125,7 +125,7 @@ static enum status stats_source(const struct source *source)
 {
     uint64_t word = boundary_check(source->bytes, source->len);
     if (BOUNDARY_NUMBER(word) != 0) {
-        refusal_print(stderr, source->name, word);
+        refusal_print(stderr, source, word);
         return refusal_status(word);
     }
     struct stats stats = {.page_count = 0};

@@ -7,16 +7,16 @@ import made
 SAMPLE = "crates/sample/stdout"
 AFTER = (3, 4, 5, 6)
 
-# What the sentence of each number must say: what is wrong, and what to do.
+# What the sentence of each number must say: what is wrong, and what to do. Of 9 it says more, where it is known (see SAYS_BITS).
 SAYS = {
     3: ("more than 1,024 pages", "two files"),
     4: ("length does not fit, or bytes follow the end", "take a fresh copy"),
     5: ("wrong kind, or the edition is not 1", "whether it is a boundary file"),
     6: ("count is out of its limits, or the counts at the end are wrong", "written again"),
     7: ("box is not finite or is reversed, or is not all zero", "written again"),
-    8: ("width of a column is over 64", "take a fresh copy"),
-    9: ("too few bits, or a whole byte too many", "take a fresh copy"),
-    10: ("fill a column's last byte are not zero", "written again"),
+    8: ("width of the column is over 64", "take a fresh copy"),
+    9: ("the column has ", "take a fresh copy"),
+    10: ("fill the column's last byte are not zero", "written again"),
     11: ("type is over 6, or parts and vertices do not fit", "written again"),
     12: ("coordinate is not finite", "vertex with no value"),
     13: ("a ring is not closed", "the last vertex must repeat the first, bit for bit"),
@@ -26,20 +26,39 @@ SAYS = {
 }
 
 
+# Where bits are lacking, and where bytes are left over.
+SAYS_BITS = ("too few bits: they end before that value is complete", "a whole byte too many, or more, behind its last value")
+
+
 def where(number, page):
     if number in AFTER:
         return f"after {page} page{'' if page == 1 else 's'}"
     return f"page {page}"
 
 
+def column_at(number, column, value, seats):
+    """What the line says of a column, and what the sentence of 9 says then. `seats` are those of the page's vertices."""
+    if number != 9 or value == len(seats):
+        return f", column {column} as a whole", SAYS_BITS[1:] if number == 9 else ()
+    seat = "place {}, register {}, part {}, vertex {}, counted from 0".format(*seats[value])
+    return f", column {column}, value {value} ({seat})", SAYS_BITS[:1]
+
+
 def line_is_right(line, path, answer):
-    """Whether a line says of a file what document 01 asks for."""
+    """Whether a line says of a file what document 01 asks for, and where in the page a column is refused."""
     sound = re.fullmatch(r"sound (\d+) pages (\d+) shapes", answer)
     if sound:
         return line == f"{path}: sound, {sound[1]} pages, {sound[2]} shapes"
-    number, page = map(int, re.fullmatch(r"refused (\d+) page (\d+)", answer).groups())
-    head = f"{path}: refused ({number}), {where(number, page)}: "
-    return line.startswith(head) and line.endswith(".") and all(words in line for words in SAYS[number])
+    number, page, column, value = re.fullmatch(r"refused (\d+) page (\d+)(?: column ([xy]) value (\d+))?", answer).groups()
+    number, page, at, says = int(number), int(page), "", SAYS[int(number)]
+    if (column is not None) != (number in (8, 9, 10)):
+        return False
+    if column:
+        with open(path, "rb") as f:
+            at, more = column_at(number, column, int(value), made.seats_of(f.read(), page))
+        says += more
+    head = f"{path}: refused ({number}), {where(number, page)}{at}: "
+    return line.startswith(head) and line.endswith(".") and all(words in line for words in says)
 
 
 def look_every_refusal(tell, folder):

@@ -6,10 +6,11 @@ import look_list
 import look_output
 import look_stats
 import look_use
+import look_where
 
 
 def all_of(tell, folder):
-    for module in (look_check, look_list, look_forms, look_stats, look_draw, look_output, look_use):
+    for module in (look_check, look_where, look_list, look_forms, look_stats, look_draw, look_output, look_use):
         for name, look in sorted(vars(module).items()):
             if name.startswith("look_") and callable(look):
                 looked(tell, folder, module.__name__, name, look)

@@ -1,6 +1,7 @@
 """Boundary files made by hand for the tests of the command, and read back, with nothing but docs/FORMAT.md.
 
-A shape is (register, type, parts), a part a list of (x, y). Columns are written at width 0, where every value stands in full: a reader takes every width.
+A shape is (register, type, parts), a part a list of (x, y). Columns are written at width 0, where every value stands in full: a reader takes every width. Where
+a test is about the columns it makes them itself, with `fields` and `laid`.
 """
 import struct
 
@@ -26,14 +27,37 @@ def column(values):
     return b"\0" + struct.pack(f"<{len(values)}d", *values) if values else b""
 
 
+def fields(patterns, width):
+    """A column at a width: for each value its fields, each (number, bits). The width goes with the first value."""
+    found, marker, last = [], 2**width - 1, None
+    for bits in patterns:
+        if last is None:
+            found.append([(width, 8), (bits, 64)])
+        else:
+            step = (bits - last + 2**63) % 2**64 - 2**63
+            z = 2 * step if step >= 0 else -2 * step - 1
+            found.append([(z, width)] if z < marker else [(marker, width), (bits, 64)])
+        last = bits
+    return found
+
+
+def laid(fields_of_values):
+    """The bytes of a column's fields, with zero bits to the end of the last byte."""
+    number = at = 0
+    for field, bits in (each for of_value in fields_of_values for each in of_value):
+        number |= field << at
+        at += bits
+    return number.to_bytes((at + 7) // 8, "little")
+
+
 def box(vertices):
     """Least x, least y, greatest x, greatest y; of equal values the first met."""
     xs, ys = [x for x, _ in vertices], [y for _, y in vertices]
     return min(xs), min(ys), max(xs), max(ys)
 
 
-def page(shapes, shown=None, types=None):
-    """A page's block. `shown` is another box than that of the vertices, `types` other types."""
+def page(shapes, shown=None, types=None, columns=None):
+    """A page's block. `shown` is another box than that of the vertices, `types` other types, `columns` other bytes for x and y."""
     parts = [part for _, _, parts in shapes for part in parts]
     vertices = [vertex for part in parts for vertex in part]
     body = struct.pack("<3H", len(shapes), len(vertices), len(parts))
@@ -42,7 +66,7 @@ def page(shapes, shown=None, types=None):
     body += bytes(types or [kind for _, kind, _ in shapes])
     body += b"".join(struct.pack("<H", len(parts)) for _, _, parts in shapes)
     body += b"".join(struct.pack("<H", len(part)) for part in parts)
-    x, y = column([x for x, _ in vertices]), column([y for _, y in vertices])
+    x, y = columns or (column([x for x, _ in vertices]), column([y for _, y in vertices]))
     return block(2, body + struct.pack("<II", len(x), len(y)) + x + y)
 
 
@@ -54,6 +78,12 @@ def framed(pages, shapes):
 def file_of(*pages):
     """A file of pages, each a list of shapes."""
     return framed([page(shapes) for shapes in pages], sum(map(len, pages)))
+
+
+def seats(first, shapes):
+    """Of each vertex of a page, in order: the place of its shape, where `first` is the first one's, its register, the part and the vertex in the part."""
+    return [(first + i, register, part, vertex) for i, (register, _, parts) in enumerate(shapes)
+            for part, vertices in enumerate(parts) for vertex in range(len(vertices))]
 
 
 def turn(ring):
@@ -69,6 +99,18 @@ def polygons(kind, parts):
             found.append([])
         found[-1].append(ring)
     return found
+
+
+def seats_of(data, number):
+    """The seats of the vertices of a page, read from a file whose tables are sound up to that page."""
+    at, first = 8, 0
+    for _ in range(number):
+        first += struct.unpack_from("<H", data, at + 6)[0]
+        at += 6 + struct.unpack_from("<I", data, at)[0]
+    g, _, p = struct.unpack_from("<3H", data, at + 6)
+    registers, counts = struct.unpack_from(f"<{g}I", data, at + 44), struct.unpack_from(f"<{g}H", data, at + 44 + 5 * g)
+    lens = iter(struct.unpack_from(f"<{p}H", data, at + 44 + 7 * g))
+    return seats(first, [(register, None, [range(next(lens)) for _ in range(count)]) for register, count in zip(registers, counts)])
 
 
 def pages_of(data):

@@ -1,0 +1,218 @@
+"""Where in the page a column is refused (8, 9, 10): the line names page, column and value, and the shape's vertex that the value belongs to, if it is one.
+
+The file of these looks has two pages. Values are chosen by their patterns, so that at width 12 every step fits in its 12 bits but one, which is a marker and 64 bits.
+"""
+import random
+import struct
+import subprocess
+
+import made
+from look_check import write
+
+BASE = made.pattern(100.0)
+FIRST = [(11, made.POINT, [[(-1, -2)]]), (12, made.EMPTY, []), (13, made.LINE, [[(-3, -3), (-1, -1)]])]
+# Of the second page, as steps from BASE: places 3 to 6, and the values 0 to 13 of both columns.
+SECOND = [
+    (21, made.EMPTY, []),
+    (22, made.MULTILINE, [[0, 5], [9, 2**20, 2**20 + 3]]),
+    (23, made.POLYGON, [[2**20 + 7, 2**20 + 9, 2**20 + 11, 2**20 + 7], [2**20 + 8, 2**20 + 10, 2**20 + 8, 2**20 + 8]]),
+    (4294967295, made.POINT, [[2**20]]),
+]
+PATTERNS = [BASE + step for _, _, parts in SECOND for part in parts for step in part]
+SOURCES = [f"command/{name}.c" for name in ("refusal", "vertex", "layout", "name", "source")]
+TAKE = "The page is damaged: take a fresh copy of the file."
+LACKING = f"the column has too few bits: they end before that value is complete. {TAKE}"
+LEFT = f"the column has a whole byte too many, or more, behind its last value. {TAKE}"
+EITHER = f"the column has too few bits, or a whole byte too many. {TAKE}"
+FILL = ("the bits that fill the column's last byte are not zero. The page is damaged, or its writer leaves bits behind: take a fresh copy, or have the page "
+        "written again.")
+WIDTH = f"the width of the column is over 64. {TAKE}"
+
+
+def second():
+    """The second page's shapes, with x and y the same."""
+    return [(register, kind, [[(made.value(BASE + step),) * 2 for step in part] for part in parts]) for register, kind, parts in SECOND]
+
+
+def file_with(column, changed, width=12):
+    """The file, with other bytes in one column of its second page; the other column is at the width."""
+    sound = made.laid(made.fields(PATTERNS, width))
+    columns = (changed, sound) if column == "x" else (sound, changed)
+    return made.framed([made.page(FIRST), made.page(second(), columns=columns)], len(FIRST) + len(SECOND))
+
+
+def cut_at(width, length):
+    """The first value whose bits are not all in so many bytes of the column."""
+    end = 0
+    for i, of_value in enumerate(made.fields(PATTERNS, width)):
+        end += sum(bits for _, bits in of_value)
+        if end > 8 * length:
+            return i
+    return len(PATTERNS)
+
+
+def seat(place, register, part, vertex):
+    return f"(place {place}, register {register}, part {part}, vertex {vertex}, counted from 0)"
+
+
+def kinds():
+    """Of each kind of damage: its name, the column's bytes, the number, where it is in the column, and the sentence. The places are worked out by hand: at width 12
+    the first value ends at bit 72, value 1 at 84, value 2 at 96, value 3, the marker, at 172, and each later one 12 bits on, to 292, so that 4 bits are fill."""
+    whole = made.laid(made.fields(PATTERNS, 12))
+    assert len(whole) == 37 and whole[36] < 16
+    at = " as a whole"
+    return (
+        ("no-width", b"", 9, ", value 0 " + seat(4, 22, 0, 0), LACKING),
+        ("width-alone", whole[:1], 9, ", value 0 " + seat(4, 22, 0, 0), LACKING),
+        ("first-pattern", whole[:8], 9, ", value 0 " + seat(4, 22, 0, 0), LACKING),
+        ("no-entry", whole[:9], 9, ", value 1 " + seat(4, 22, 0, 1), LACKING),
+        ("entry", whole[:10], 9, ", value 1 " + seat(4, 22, 0, 1), LACKING),
+        ("entry-of-part-1", whole[:11], 9, ", value 2 " + seat(4, 22, 1, 0), LACKING),
+        ("marker", whole[:13], 9, ", value 3 " + seat(4, 22, 1, 1), LACKING),
+        ("marker-value", whole[:21], 9, ", value 3 " + seat(4, 22, 1, 1), LACKING),
+        ("after-marker", whole[:22], 9, ", value 4 " + seat(4, 22, 1, 2), LACKING),
+        ("ring", whole[:23], 9, ", value 5 " + seat(5, 23, 0, 0), LACKING),
+        ("hole", whole[:30], 9, ", value 9 " + seat(5, 23, 1, 0), LACKING),
+        ("hole-end", whole[:34], 9, ", value 12 " + seat(5, 23, 1, 3), LACKING),
+        ("last", whole[:36], 9, ", value 13 " + seat(6, 4294967295, 0, 0), LACKING),
+        ("byte-left", whole + b"\0", 9, at, LEFT),
+        ("bytes-left", whole + b"\1\2\3", 9, at, LEFT),
+        ("byte-left-and-fill", whole[:36] + bytes([whole[36] | 16, 0]), 9, at, LEFT),
+        ("fill-low", whole[:36] + bytes([whole[36] | 16]), 10, at, FILL),
+        ("fill-high", whole[:36] + bytes([whole[36] | 128]), 10, at, FILL),
+        ("width-65", b"\x41" + whole[1:], 8, at, WIDTH),
+        ("width-255", b"\xff", 8, at, WIDTH),
+    )
+
+
+def said_by_each(tell, path, line):
+    """Every command that opens the second page says the same of it, and ends with 1; what keeps to the first page is as good as ever."""
+    tell.same(tell.run("check", path), (1, line, ""), f"check {path}")
+    for words in (("list",), ("list", "--spot", 100, 100), ("draw",), ("draw", "--spot", -1, -1), ("stats",), ("show", 3), ("show", 4), ("show", 6, "--wkt")):
+        tell.same(tell.run(words[0], path, *words[1:]), (1, "", line), f"{words} of {path}")
+    tell.check(tell.good("list", path, "--spot", -1, -1).endswith("hits 1 of 7\n"), f"list of the first page of {path}")
+    tell.check(tell.good("show", path, 2).startswith("place     2\nregister  13\n"), f"show in the first page of {path}")
+
+
+def look_file_is_sound(tell, folder):
+    """What is damaged below is sound before, at each width."""
+    for width in (0, 7, 12, 64):
+        path = f"{folder}/where-{width}.boundary"
+        write(path, file_with("x", made.laid(made.fields(PATTERNS, width)), width))
+        tell.same(tell.good("check", path), f"{path}: sound, 2 pages, 7 shapes\n", f"width {width}")
+
+
+def look_each_kind(tell, folder):
+    for column in ("x", "y"):
+        for name, changed, number, at, sentence in kinds():
+            path = f"{folder}/where-{column}-{name}.boundary"
+            write(path, file_with(column, changed))
+            said_by_each(tell, path, f"{path}: refused ({number}), page 1, column {column}{at}: {sentence}\n")
+
+
+def look_every_cut(tell, folder):
+    """Each column cut to each length, at several widths."""
+    paths, lines, seats = [], [], made.seats(len(FIRST), SECOND)
+    tell.same(len(seats), len(PATTERNS), "a seat for each value")
+    for width, column in ((w, c) for w in (0, 7, 12, 64) for c in ("x", "y")):
+        whole = made.laid(made.fields(PATTERNS, width))
+        for length in range(len(whole)):
+            path, value = f"{folder}/where-{column}-{width}-{length}.boundary", cut_at(width, length)
+            write(path, file_with(column, whole[:length], width))
+            paths.append(path)
+            lines.append(f"{path}: refused (9), page 1, column {column}, value {value} {seat(*seats[value])}: {LACKING}")
+    status, said, aside = tell.run("check", *paths)
+    tell.same((status, aside, len(said.splitlines())), (1, "", len(paths)), "all cuts at once")
+    for line, wanted in zip(said.splitlines(), lines):
+        tell.same(line, wanted, "a cut")
+    tell.check(all(any(f", value {value} (" in line for line in lines) for value in range(len(PATTERNS))), "a cut at each value")
+
+
+def look_no_vertices(tell, folder):
+    """A page of empty shapes has columns of no bytes: any byte is left over, also one that would be a wrong width."""
+    for column, changed in (("x", (b"\0", b"")), ("y", (b"", b"\0")), ("x", (b"\xff", b"\0")), ("y", (b"", bytes(9)))):
+        path = f"{folder}/where-empty-{column}.boundary"
+        blank = made.page([(21, made.EMPTY, []), (22, made.EMPTY, [])], columns=changed)
+        write(path, made.framed([made.page(FIRST), blank], 5))
+        line = f"{path}: refused (9), page 1, column {column} as a whole: {LEFT}\n"
+        tell.same(tell.run("check", path), (1, line, ""), f"check {path}")
+        for words in (("list",), ("draw",), ("stats",), ("show", 3), ("show", 4)):
+            tell.same(tell.run(words[0], path, *words[1:]), (1, "", line), f"{words} of {path}")
+
+
+def look_first_fault_is_told(tell, folder):
+    """Tables go before columns, x before y, and the first page before the second; a pipe is told of as a file is."""
+    cut, path = made.laid(made.fields(PATTERNS, 12))[:30], f"{folder}/where-both.boundary"
+    both = made.page(second(), columns=(cut, b"\x41"))
+    head, line = "refused (9), page 1, column x, value 9 " + seat(5, 23, 1, 0), made.framed([made.page(FIRST), both], 7)
+    tell.same(tell.run("check", "-", given=line), (1, f"standard input: {head}: {LACKING}\n", ""), "both columns, by a pipe")
+    write(path, made.framed([both, both], 8))
+    head = "refused (9), page 0, column x, value 9 " + seat(2, 23, 1, 0)
+    tell.same(tell.run("check", path), (1, f"{path}: {head}: {LACKING}\n", ""), "both pages")
+    write(path, made.framed([made.page(second(), types=[7, 5, 3, 1], columns=(cut, cut))], 4))
+    status, said, _ = tell.run("check", path)
+    tell.same((status, said.startswith(f"{path}: refused (11), page 0: ")), (1, True), "a type over 6 before a column")
+
+
+def word(number, page, column, index):
+    return f"{index << 42 | column << 40 | number << 32 | page:x}"
+
+
+def refused(folder, asked, *paths):
+    """The lines of tests/command/refused.c on files; `asked` is number, page, column and index."""
+    done = subprocess.run([f"{folder}/refused", word(*asked), *paths], capture_output=True, check=False, text=True)
+    return done.returncode, done.stdout.splitlines(), done.stderr
+
+
+def build_refused(folder):
+    """Builds tests/command/refused.c with the compiler's watch over memory and undefined behaviour."""
+    flags = "-std=c11 -g -O1 -D_POSIX_C_SOURCE=200809L -Wall -Wextra -Wpedantic -Wconversion -Werror -fsanitize=address,undefined -fno-sanitize-recover=all"
+    subprocess.run(["gcc", *flags.split(), "-Iinclude", "-Icommand", "tests/command/refused.c", *SOURCES, "-o", f"{folder}/refused"], check=True)
+
+
+def look_words_that_do_not_belong(tell, folder):
+    """A word and bytes that do not belong together, and every start of the file: what cannot be found is left out, and nothing is read behind the bytes."""
+    build_refused(folder)
+    path, data = f"{folder}/where-word.boundary", file_with("x", b"")
+    write(path, data)
+    end = len(data) - 14
+    lost, found = ": " + EITHER, f" {seat(5, 23, 1, 0)}: {LACKING}"
+    for asked, short, full in (
+        ((9, 1, 1, 9), ", page 1, column x, value 9" + lost, ", page 1, column x, value 9" + found),
+        ((9, 1, 2, 9), ", page 1, column y, value 9" + lost, ", page 1, column y, value 9" + found),
+        ((9, 1, 2, 14), ", page 1, column y, value 14" + lost, f", page 1, column y as a whole: {LEFT}"),
+        ((9, 1, 1, 15), ", page 1, column x, value 15" + lost, ", page 1, column x, value 15" + lost),
+        ((9, 1, 1, 4095), ", page 1, column x, value 4095" + lost, ", page 1, column x, value 4095" + lost),
+        ((9, 2, 1, 0), ", page 2, column x, value 0" + lost, ", page 2, column x, value 0" + lost),
+        ((9, 2**32 - 1, 2, 3), ", page 4294967295, column y, value 3" + lost, ", page 4294967295, column y, value 3" + lost),
+        ((9, 1, 0, 9), f", page 1{lost}", f", page 1: {LACKING}"),
+        ((9, 1, 3, 9), f", page 1{lost}", f", page 1: {LACKING}"),
+        ((8, 7, 1, 5), f", page 7, column x as a whole: {WIDTH}", f", page 7, column x as a whole: {WIDTH}"),
+        ((10, 7, 2, 5), f", page 7, column y as a whole: {FILL}", f", page 7, column y as a whole: {FILL}"),
+    ):
+        heads = [f"{path}: refused ({asked[0]}){short}"] * end + [f"{path}: refused ({asked[0]}){full}"] * (len(data) - end + 1)
+        tell.same(refused(folder, asked, path), (0, heads, ""), f"the word {asked}")
+
+
+def look_tables_that_do_not_fit(tell, folder):
+    """Part counts and lengths that do not reach the value: page, column and value alone. And bytes changed by lot, with nothing read behind them."""
+    build_refused(folder)
+    data, path = file_with("x", b""), f"{folder}/where-tables.boundary"
+    start = 8 + len(made.page(FIRST)) + 44 + 4 * len(SECOND) + len(SECOND)
+    tell.same(struct.unpack_from("<9H", data, start), (0, 2, 2, 1, 2, 3, 4, 4, 1), "the tables of the second page")
+    for at, number, value in ((start + 2, 0, 13), (start + 4, 1, 13), (start + 8, 1, 13), (start + 14, 0, 10), (start + 16, 0, 13)):
+        changed = bytearray(data)
+        struct.pack_into("<H", changed, at, number)
+        write(path, changed)
+        status, lines, aside = refused(folder, (9, 1, 1, value), path)
+        tell.same((status, lines[-1], aside), (0, f"{path}: refused (9), page 1, column x, value {value}: {EITHER}", ""), f"the table at {at}")
+    lot, paths = random.Random(4), [f"{folder}/where-lot-{i}.boundary" for i in range(40)]
+    for each in paths:
+        changed = bytearray(data)
+        for _ in range(lot.randint(1, 30)):
+            changed[lot.randrange(8, len(changed))] = lot.choice((0, 1, 2, 255, lot.randrange(256)))
+        write(each, changed)
+    for value in (0, 9, 13):
+        status, lines, aside = refused(folder, (9, 1, 1, value), *paths)
+        tell.same((status, len(lines), aside), (0, 40 * (len(data) + 1), ""), f"changed by lot, value {value}")
+        tell.check(all(f", column x, value {value}" in line or line.endswith(LEFT) for line in lines), f"changed by lot, value {value}: the lines")
