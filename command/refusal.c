@@ -7,8 +7,8 @@
 #include "name.h"
 #include "vertex.h"
 
-/* What a refusal says of where it is: nothing; the page at fault; how many pages were passed before the block at fault; or the page at
- * fault with its column, as a whole or at a value. */
+/* What a refusal says of where it is: nothing; the page at fault; how many pages were passed before the block at fault;
+ * or the page at fault with its column, as a whole or at a value. */
 enum where { NOWHERE, ON_PAGE, AFTER_PAGES, IN_COLUMN, AT_VALUE };
 
 struct sentence {
@@ -35,9 +35,11 @@ static const struct sentence sentences[] = {
     [BOUNDARY_REFUSED_WIDTH] = {IN_COLUMN, STATUS_REFUSED,
         "the width of the column is over 64. The page is damaged: take a fresh copy of the file."},
     [BOUNDARY_REFUSED_BITS] = {AT_VALUE, STATUS_REFUSED,
-        "the column has too few bits, or a whole byte too many. The page is damaged: take a fresh copy of the file."},
+        "the column has too few bits, or a whole byte or more too many. The page is damaged: "
+        "take a fresh copy of the file."},
     [BOUNDARY_REFUSED_FILL] = {IN_COLUMN, STATUS_REFUSED,
-        "the bits that fill the column's last byte are not zero. The page is damaged, or its writer leaves bits behind: take a fresh copy, or have the page written again."},
+        "the bits that fill the column's last byte are not zero. The page is damaged, or its writer leaves bits "
+        "behind: take a fresh copy, or have the page written again."},
     [BOUNDARY_REFUSED_PARTS] = {ON_PAGE, STATUS_REFUSED,
         "a type is over 6, or parts and vertices do not fit the types. Give each shape the parts that its type asks for (a ring has at least 4 vertices, a line 2), and "
         "have the page written again."},
@@ -64,19 +66,23 @@ static const struct sentence *sentence_of(uint32_t number)
     return &sentences[number];
 }
 
-/* The sentence of number 9, by what the value is at which reading stopped: its bits are lacking, or bytes are left behind the last. */
+/* The sentence of number 9, by what the value is at which reading stopped: a vertex lacks its bits, or bytes are left
+ * behind the last one. */
 static const struct sentence *bits_sentence(enum vertex_found found)
 {
     static const struct sentence lacking = {AT_VALUE, STATUS_REFUSED,
-        "the column has too few bits: they end before that value is complete. The page is damaged: take a fresh copy of the file."};
+        "the column has too few bits: they end before that value is complete. The page is damaged: "
+        "take a fresh copy of the file."};
     static const struct sentence left = {IN_COLUMN, STATUS_REFUSED,
-        "the column has a whole byte too many, or more, behind its last value. The page is damaged: take a fresh copy of the file."};
+        "the column has a whole byte or more too many: it is longer than its values take. The page is damaged: "
+        "take a fresh copy of the file."};
     if (found == VERTEX_LOST)
         return sentence_of(BOUNDARY_REFUSED_BITS);
     return found == VERTEX_FOUND ? &lacking : &left;
 }
 
-/* Prints the column of a refusal, where it has one: as a whole, or with the value and, where it was found, the vertex that this is. */
+/* Prints the column of a refusal, where it has one: as a whole, or with the value and, where it was found, the vertex
+ * that this is. */
 static void print_column(FILE *out, uint64_t word, enum where where, const struct vertex *vertex)
 {
     static const char *const names[] = {[BOUNDARY_COLUMN_X] = "x", [BOUNDARY_COLUMN_Y] = "y"};
@@ -89,8 +95,8 @@ static void print_column(FILE *out, uint64_t word, enum where where, const struc
     else
         fprintf(out, ", value %" PRIu32, BOUNDARY_INDEX(word));
     if (vertex != NULL)
-        fprintf(out, " (place %" PRIu64 ", register %" PRIu32 ", part %" PRIu32 ", vertex %" PRIu32 ", counted from 0)", vertex->place,
-                vertex->register_number, vertex->part, vertex->vertex);
+        fprintf(out, " (place %" PRIu64 ", register %" PRIu32 ", part %" PRIu32 ", vertex %" PRIu32 ", counted from 0)",
+                vertex->place, vertex->register_number, vertex->part, vertex->vertex);
 }
 
 /* Prints where a refusal is. */
@@ -108,10 +114,13 @@ static void print_where(FILE *out, uint64_t word, enum where where, const struct
 void refusal_print(FILE *out, const struct source *source, uint64_t word)
 {
     uint32_t number = BOUNDARY_NUMBER(word);
-    bool bits = number == BOUNDARY_REFUSED_BITS;
+    const struct sentence *sentence = sentence_of(number);
+    enum vertex_found found = VERTEX_LOST;
     struct vertex vertex;
-    enum vertex_found found = bits ? vertex_find(source, BOUNDARY_PAGE(word), BOUNDARY_INDEX(word), &vertex) : VERTEX_LOST;
-    const struct sentence *sentence = bits ? bits_sentence(found) : sentence_of(number);
+    if (number == BOUNDARY_REFUSED_BITS) {
+        found = vertex_find(source, BOUNDARY_PAGE(word), BOUNDARY_INDEX(word), &vertex);
+        sentence = bits_sentence(found);
+    }
     name_print(out, source->name);
     fprintf(out, ": refused (%" PRIu32 ")", number);
     print_where(out, word, sentence->where, found == VERTEX_FOUND ? &vertex : NULL);

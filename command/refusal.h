@@ -8,8 +8,9 @@
 #include "source.h"
 #include "status.h"
 
-/* Prints a line on the refusal in an answer of the library about a file: its name, the number, where it is, what is wrong, and what to do.
- * Where a column of a page ends too early, the line names the vertex that lacks its bits, which is looked up in the file's bytes. */
+/* Prints a line on the refusal in an answer of the library about a file: its name, the number, where it is, what is
+ * wrong, and what to do. Where a column of a page ends too early, the line names the vertex that lacks its bits; it is
+ * looked up in the file's bytes. */
 void refusal_print(FILE *out, const struct source *source, uint64_t word);
 
 /* The status that a refusal ends with: a fault of the file is STATUS_REFUSED, one of the question STATUS_WRONG. */

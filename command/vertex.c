@@ -19,8 +19,8 @@ static bool find_page(const struct source *source, uint32_t number, struct layou
     return false;
 }
 
-/* In which group an index lies, where the groups' sizes, two bytes each, follow one another: `groups` where it lies in none. The index
- * becomes that within the group. */
+/* In which group an index lies, where groups of these sizes, two bytes each, follow one another: `groups` where it lies
+ * in none. The index becomes that within the group. */
 static uint32_t group_of(const uint8_t *sizes, uint32_t groups, uint32_t *index)
 {
     for (uint32_t i = 0; i < groups; i++) {

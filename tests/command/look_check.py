@@ -7,7 +7,7 @@ import made
 SAMPLE = "crates/sample/stdout"
 AFTER = (3, 4, 5, 6)
 
-# What the sentence of each number must say: what is wrong, and what to do. Of 9 it says more, where it is known (see SAYS_BITS).
+# What the sentence of each number must say: what is wrong, and what to do. Of 9 it says more (see SAYS_BITS).
 SAYS = {
     3: ("more than 1,024 pages", "two files"),
     4: ("length does not fit, or bytes follow the end", "take a fresh copy"),
@@ -27,7 +27,8 @@ SAYS = {
 
 
 # Where bits are lacking, and where bytes are left over.
-SAYS_BITS = ("too few bits: they end before that value is complete", "a whole byte too many, or more, behind its last value")
+SAYS_BITS = ("too few bits: they end before that value is complete",
+             "a whole byte or more too many: it is longer than its values take")
 
 
 def where(number, page):
@@ -37,7 +38,7 @@ def where(number, page):
 
 
 def column_at(number, column, value, seats):
-    """What the line says of a column, and what the sentence of 9 says then. `seats` are those of the page's vertices."""
+    """What the line says of a column, and what the sentence of 9 says then. `seats` are those of the page."""
     if number != 9 or value == len(seats):
         return f", column {column} as a whole", SAYS_BITS[1:] if number == 9 else ()
     seat = "place {}, register {}, part {}, vertex {}, counted from 0".format(*seats[value])
@@ -49,8 +50,9 @@ def line_is_right(line, path, answer):
     sound = re.fullmatch(r"sound (\d+) pages (\d+) shapes", answer)
     if sound:
         return line == f"{path}: sound, {sound[1]} pages, {sound[2]} shapes"
-    number, page, column, value = re.fullmatch(r"refused (\d+) page (\d+)(?: column ([xy]) value (\d+))?", answer).groups()
-    number, page, at, says = int(number), int(page), "", SAYS[int(number)]
+    refused = re.fullmatch(r"refused (\d+) page (\d+)(?: column ([xy]) value (\d+))?", answer)
+    number, page, column, value = int(refused[1]), int(refused[2]), refused[3], refused[4]
+    at, says = "", SAYS[number]
     if (column is not None) != (number in (8, 9, 10)):
         return False
     if column:

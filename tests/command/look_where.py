@@ -1,6 +1,8 @@
-"""Where in the page a column is refused (8, 9, 10): the line names page, column and value, and the shape's vertex that the value belongs to, if it is one.
+"""Where in the page a column is refused (8, 9, 10): the line names page and column, and the value with its shape's
+vertex, or the column as a whole.
 
-The file of these looks has two pages. Values are chosen by their patterns, so that at width 12 every step fits in its 12 bits but one, which is a marker and 64 bits.
+The file of these looks has two pages. Values are chosen by their patterns, so that at width 12 every step fits in its
+12 bits but one, which is a marker and 64 bits.
 """
 import random
 import struct
@@ -22,16 +24,18 @@ PATTERNS = [BASE + step for _, _, parts in SECOND for part in parts for step in 
 SOURCES = [f"command/{name}.c" for name in ("refusal", "vertex", "layout", "name", "source")]
 TAKE = "The page is damaged: take a fresh copy of the file."
 LACKING = f"the column has too few bits: they end before that value is complete. {TAKE}"
-LEFT = f"the column has a whole byte too many, or more, behind its last value. {TAKE}"
-EITHER = f"the column has too few bits, or a whole byte too many. {TAKE}"
-FILL = ("the bits that fill the column's last byte are not zero. The page is damaged, or its writer leaves bits behind: take a fresh copy, or have the page "
-        "written again.")
+LEFT = f"the column has a whole byte or more too many: it is longer than its values take. {TAKE}"
+EITHER = f"the column has too few bits, or a whole byte or more too many. {TAKE}"
+FILL = ("the bits that fill the column's last byte are not zero. The page is damaged, or its writer leaves bits "
+        "behind: take a fresh copy, or have the page written again.")
 WIDTH = f"the width of the column is over 64. {TAKE}"
 
 
 def second():
     """The second page's shapes, with x and y the same."""
-    return [(register, kind, [[(made.value(BASE + step),) * 2 for step in part] for part in parts]) for register, kind, parts in SECOND]
+    def vertices(part):
+        return [(made.value(BASE + step),) * 2 for step in part]
+    return [(register, kind, [vertices(part) for part in parts]) for register, kind, parts in SECOND]
 
 
 def file_with(column, changed, width=12):
@@ -56,8 +60,9 @@ def seat(place, register, part, vertex):
 
 
 def kinds():
-    """Of each kind of damage: its name, the column's bytes, the number, where it is in the column, and the sentence. The places are worked out by hand: at width 12
-    the first value ends at bit 72, value 1 at 84, value 2 at 96, value 3, the marker, at 172, and each later one 12 bits on, to 292, so that 4 bits are fill."""
+    """Of each kind of damage: its name, the column's bytes, the number, where it is in the column, and the sentence.
+    The places are worked out by hand: at width 12 the first value ends at bit 72, value 1 at 84, value 2 at 96, value
+    3, the marker, at 172, and each later one 12 bits on, to 292, so that 4 bits are fill."""
     whole = made.laid(made.fields(PATTERNS, 12))
     assert len(whole) == 37 and whole[36] < 16
     at = " as a whole"
@@ -85,13 +90,17 @@ def kinds():
     )
 
 
-def said_by_each(tell, path, line):
-    """Every command that opens the second page says the same of it, and ends with 1; what keeps to the first page is as good as ever."""
+def said_by_each(tell, path, line, *more):
+    """Every command that opens the second page says the same of it, and ends with 1. `more` are further such uses."""
     tell.same(tell.run("check", path), (1, line, ""), f"check {path}")
-    for words in (("list",), ("list", "--spot", 100, 100), ("draw",), ("draw", "--spot", -1, -1), ("stats",), ("show", 3), ("show", 4), ("show", 6, "--wkt")):
+    for words in (("list",), ("draw",), ("draw", "--spot", -1, -1), ("stats",), ("show", 3), ("show", 4), *more):
         tell.same(tell.run(words[0], path, *words[1:]), (1, "", line), f"{words} of {path}")
-    tell.check(tell.good("list", path, "--spot", -1, -1).endswith("hits 1 of 7\n"), f"list of the first page of {path}")
-    tell.check(tell.good("show", path, 2).startswith("place     2\nregister  13\n"), f"show in the first page of {path}")
+
+
+def first_is_good(tell, path):
+    """What keeps to the first page is as good as ever."""
+    tell.check("hits 1 of 7\n" in tell.good("list", path, "--spot", -1, -1), f"list of the first page of {path}")
+    tell.check("\nregister  13\n" in tell.good("show", path, 2), f"show in the first page of {path}")
 
 
 def look_file_is_sound(tell, folder):
@@ -107,7 +116,9 @@ def look_each_kind(tell, folder):
         for name, changed, number, at, sentence in kinds():
             path = f"{folder}/where-{column}-{name}.boundary"
             write(path, file_with(column, changed))
-            said_by_each(tell, path, f"{path}: refused ({number}), page 1, column {column}{at}: {sentence}\n")
+            line = f"{path}: refused ({number}), page 1, column {column}{at}: {sentence}\n"
+            said_by_each(tell, path, line, ("list", "--spot", 100, 100), ("show", 6, "--wkt"))
+            first_is_good(tell, path)
 
 
 def look_every_cut(tell, folder):
@@ -120,12 +131,14 @@ def look_every_cut(tell, folder):
             path, value = f"{folder}/where-{column}-{width}-{length}.boundary", cut_at(width, length)
             write(path, file_with(column, whole[:length], width))
             paths.append(path)
-            lines.append(f"{path}: refused (9), page 1, column {column}, value {value} {seat(*seats[value])}: {LACKING}")
+            at = f"page 1, column {column}, value {value} {seat(*seats[value])}"
+            lines.append(f"{path}: refused (9), {at}: {LACKING}")
     status, said, aside = tell.run("check", *paths)
     tell.same((status, aside, len(said.splitlines())), (1, "", len(paths)), "all cuts at once")
     for line, wanted in zip(said.splitlines(), lines):
         tell.same(line, wanted, "a cut")
-    tell.check(all(any(f", value {value} (" in line for line in lines) for value in range(len(PATTERNS))), "a cut at each value")
+    for value in range(len(PATTERNS)):
+        tell.check(any(f", value {value} (" in line for line in said.splitlines()), f"a cut at value {value}")
 
 
 def look_no_vertices(tell, folder):
@@ -134,21 +147,19 @@ def look_no_vertices(tell, folder):
         path = f"{folder}/where-empty-{column}.boundary"
         blank = made.page([(21, made.EMPTY, []), (22, made.EMPTY, [])], columns=changed)
         write(path, made.framed([made.page(FIRST), blank], 5))
-        line = f"{path}: refused (9), page 1, column {column} as a whole: {LEFT}\n"
-        tell.same(tell.run("check", path), (1, line, ""), f"check {path}")
-        for words in (("list",), ("draw",), ("stats",), ("show", 3), ("show", 4)):
-            tell.same(tell.run(words[0], path, *words[1:]), (1, "", line), f"{words} of {path}")
+        said_by_each(tell, path, f"{path}: refused (9), page 1, column {column} as a whole: {LEFT}\n")
 
 
 def look_first_fault_is_told(tell, folder):
     """Tables go before columns, x before y, and the first page before the second; a pipe is told of as a file is."""
     cut, path = made.laid(made.fields(PATTERNS, 12))[:30], f"{folder}/where-both.boundary"
     both = made.page(second(), columns=(cut, b"\x41"))
-    head, line = "refused (9), page 1, column x, value 9 " + seat(5, 23, 1, 0), made.framed([made.page(FIRST), both], 7)
-    tell.same(tell.run("check", "-", given=line), (1, f"standard input: {head}: {LACKING}\n", ""), "both columns, by a pipe")
+    line = f"standard input: refused (9), page 1, column x, value 9 {seat(5, 23, 1, 0)}: {LACKING}\n"
+    given = made.framed([made.page(FIRST), both], 7)
+    tell.same(tell.run("check", "-", given=given), (1, line, ""), "both columns, by a pipe")
     write(path, made.framed([both, both], 8))
-    head = "refused (9), page 0, column x, value 9 " + seat(2, 23, 1, 0)
-    tell.same(tell.run("check", path), (1, f"{path}: {head}: {LACKING}\n", ""), "both pages")
+    line = f"{path}: refused (9), page 0, column x, value 9 {seat(2, 23, 1, 0)}: {LACKING}\n"
+    tell.same(tell.run("check", path), (1, line, ""), "both pages")
     write(path, made.framed([made.page(second(), types=[7, 5, 3, 1], columns=(cut, cut))], 4))
     status, said, _ = tell.run("check", path)
     tell.same((status, said.startswith(f"{path}: refused (11), page 0: ")), (1, True), "a type over 6 before a column")
@@ -160,59 +171,70 @@ def word(number, page, column, index):
 
 def refused(folder, asked, *paths):
     """The lines of tests/command/refused.c on files; `asked` is number, page, column and index."""
-    done = subprocess.run([f"{folder}/refused", word(*asked), *paths], capture_output=True, check=False, text=True)
+    words = [f"{folder}/refused", word(*asked), *paths]
+    done = subprocess.run(words, capture_output=True, check=False, text=True)
     return done.returncode, done.stdout.splitlines(), done.stderr
 
 
 def build_refused(folder):
     """Builds tests/command/refused.c with the compiler's watch over memory and undefined behaviour."""
-    flags = "-std=c11 -g -O1 -D_POSIX_C_SOURCE=200809L -Wall -Wextra -Wpedantic -Wconversion -Werror -fsanitize=address,undefined -fno-sanitize-recover=all"
-    subprocess.run(["gcc", *flags.split(), "-Iinclude", "-Icommand", "tests/command/refused.c", *SOURCES, "-o", f"{folder}/refused"], check=True)
+    flags = ("-std=c11 -g -O1 -D_POSIX_C_SOURCE=200809L -Wall -Wextra -Wpedantic -Wconversion -Werror "
+             "-fsanitize=address,undefined -fno-sanitize-recover=all -Iinclude -Icommand")
+    subprocess.run(["gcc", *flags.split(), "tests/command/refused.c", *SOURCES, "-o", f"{folder}/refused"], check=True)
 
 
 def look_words_that_do_not_belong(tell, folder):
-    """A word and bytes that do not belong together, and every start of the file: what cannot be found is left out, and nothing is read behind the bytes."""
+    """A word and bytes that do not belong together, and every start of the file: what cannot be found is left out, and
+    nothing is read behind the bytes. The second page is there from the length `end` on."""
     build_refused(folder)
     path, data = f"{folder}/where-word.boundary", file_with("x", b"")
     write(path, data)
-    end = len(data) - 14
-    lost, found = ": " + EITHER, f" {seat(5, 23, 1, 0)}: {LACKING}"
+    end, found = len(data) - 14, f" {seat(5, 23, 1, 0)}: {LACKING}"
     for asked, short, full in (
-        ((9, 1, 1, 9), ", page 1, column x, value 9" + lost, ", page 1, column x, value 9" + found),
-        ((9, 1, 2, 9), ", page 1, column y, value 9" + lost, ", page 1, column y, value 9" + found),
-        ((9, 1, 2, 14), ", page 1, column y, value 14" + lost, f", page 1, column y as a whole: {LEFT}"),
-        ((9, 1, 1, 15), ", page 1, column x, value 15" + lost, ", page 1, column x, value 15" + lost),
-        ((9, 1, 1, 4095), ", page 1, column x, value 4095" + lost, ", page 1, column x, value 4095" + lost),
-        ((9, 2, 1, 0), ", page 2, column x, value 0" + lost, ", page 2, column x, value 0" + lost),
-        ((9, 2**32 - 1, 2, 3), ", page 4294967295, column y, value 3" + lost, ", page 4294967295, column y, value 3" + lost),
-        ((9, 1, 0, 9), f", page 1{lost}", f", page 1: {LACKING}"),
-        ((9, 1, 3, 9), f", page 1{lost}", f", page 1: {LACKING}"),
-        ((8, 7, 1, 5), f", page 7, column x as a whole: {WIDTH}", f", page 7, column x as a whole: {WIDTH}"),
-        ((10, 7, 2, 5), f", page 7, column y as a whole: {FILL}", f", page 7, column y as a whole: {FILL}"),
+        ((9, 1, 1, 9), f"page 1, column x, value 9: {EITHER}", f"page 1, column x, value 9{found}"),
+        ((9, 1, 2, 9), f"page 1, column y, value 9: {EITHER}", f"page 1, column y, value 9{found}"),
+        ((9, 1, 2, 14), f"page 1, column y, value 14: {EITHER}", f"page 1, column y as a whole: {LEFT}"),
+        ((9, 1, 1, 15), f"page 1, column x, value 15: {EITHER}", None),
+        ((9, 1, 1, 4095), f"page 1, column x, value 4095: {EITHER}", None),
+        ((9, 2, 1, 0), f"page 2, column x, value 0: {EITHER}", None),
+        ((9, 2**32 - 1, 2, 3), f"page 4294967295, column y, value 3: {EITHER}", None),
+        ((9, 1, 0, 9), f"page 1: {EITHER}", f"page 1: {LACKING}"),
+        ((9, 1, 3, 9), f"page 1: {EITHER}", f"page 1: {LACKING}"),
+        ((8, 7, 1, 5), f"page 7, column x as a whole: {WIDTH}", None),
+        ((10, 7, 2, 5), f"page 7, column y as a whole: {FILL}", None),
     ):
-        heads = [f"{path}: refused ({asked[0]}){short}"] * end + [f"{path}: refused ({asked[0]}){full}"] * (len(data) - end + 1)
-        tell.same(refused(folder, asked, path), (0, heads, ""), f"the word {asked}")
+        head = f"{path}: refused ({asked[0]}), "
+        lines = [head + short] * end + [head + (full or short)] * (len(data) + 1 - end)
+        tell.same(refused(folder, asked, path), (0, lines, ""), f"the word {asked}")
 
 
 def look_tables_that_do_not_fit(tell, folder):
-    """Part counts and lengths that do not reach the value: page, column and value alone. And bytes changed by lot, with nothing read behind them."""
+    """Part counts and lengths that do not reach the value: page, column and value alone."""
     build_refused(folder)
     data, path = file_with("x", b""), f"{folder}/where-tables.boundary"
-    start = 8 + len(made.page(FIRST)) + 44 + 4 * len(SECOND) + len(SECOND)
-    tell.same(struct.unpack_from("<9H", data, start), (0, 2, 2, 1, 2, 3, 4, 4, 1), "the tables of the second page")
-    for at, number, value in ((start + 2, 0, 13), (start + 4, 1, 13), (start + 8, 1, 13), (start + 14, 0, 10), (start + 16, 0, 13)):
+    counts = 8 + len(made.page(FIRST)) + 44 + 5 * len(SECOND)
+    tell.same(struct.unpack_from("<9H", data, counts), (0, 2, 2, 1, 2, 3, 4, 4, 1), "the tables of the second page")
+    for entry, number, value in ((1, 0, 13), (2, 1, 13), (4, 1, 13), (7, 0, 10), (8, 0, 13)):
         changed = bytearray(data)
-        struct.pack_into("<H", changed, at, number)
+        struct.pack_into("<H", changed, counts + 2 * entry, number)
         write(path, changed)
         status, lines, aside = refused(folder, (9, 1, 1, value), path)
-        tell.same((status, lines[-1], aside), (0, f"{path}: refused (9), page 1, column x, value {value}: {EITHER}", ""), f"the table at {at}")
-    lot, paths = random.Random(4), [f"{folder}/where-lot-{i}.boundary" for i in range(40)]
-    for each in paths:
+        line = f"{path}: refused (9), page 1, column x, value {value}: {EITHER}"
+        tell.same((status, lines[-1], aside), (0, line, ""), f"entry {entry} of the tables")
+
+
+def look_bytes_changed_by_lot(tell, folder):
+    """Whatever the bytes are, nothing is read behind them, and a line is printed."""
+    build_refused(folder)
+    data, lot, paths = file_with("x", b""), random.Random(4), []
+    for i in range(40):
         changed = bytearray(data)
         for _ in range(lot.randint(1, 30)):
             changed[lot.randrange(8, len(changed))] = lot.choice((0, 1, 2, 255, lot.randrange(256)))
-        write(each, changed)
+        paths.append(f"{folder}/where-lot-{i}.boundary")
+        write(paths[-1], changed)
     for value in (0, 9, 13):
         status, lines, aside = refused(folder, (9, 1, 1, value), *paths)
-        tell.same((status, len(lines), aside), (0, 40 * (len(data) + 1), ""), f"changed by lot, value {value}")
-        tell.check(all(f", column x, value {value}" in line or line.endswith(LEFT) for line in lines), f"changed by lot, value {value}: the lines")
+        tell.same((status, len(lines), aside), (0, len(paths) * (len(data) + 1), ""), f"value {value}, by lot")
+        right = [f", page 1, column x, value {value}" in line or line.endswith(LEFT) for line in lines]
+        tell.check(all(right), f"value {value}, by lot: the lines")

@@ -1,7 +1,7 @@
 """Boundary files made by hand for the tests of the command, and read back, with nothing but docs/FORMAT.md.
 
-A shape is (register, type, parts), a part a list of (x, y). Columns are written at width 0, where every value stands in full: a reader takes every width. Where
-a test is about the columns it makes them itself, with `fields` and `laid`.
+A shape is (register, type, parts), a part a list of (x, y). Columns are written at width 0, where every value stands in
+full: a reader takes every width. Where a test is about the columns it makes them itself, with `fields` and `laid`.
 """
 import struct
 
@@ -57,7 +57,8 @@ def box(vertices):
 
 
 def page(shapes, shown=None, types=None, columns=None):
-    """A page's block. `shown` is another box than that of the vertices, `types` other types, `columns` other bytes for x and y."""
+    """A page's block. `shown` is another box than that of the vertices, `types` other types, `columns` other bytes of
+    the x and the y column."""
     parts = [part for _, _, parts in shapes for part in parts]
     vertices = [vertex for part in parts for vertex in part]
     body = struct.pack("<3H", len(shapes), len(vertices), len(parts))
@@ -81,7 +82,8 @@ def file_of(*pages):
 
 
 def seats(first, shapes):
-    """Of each vertex of a page, in order: the place of its shape, where `first` is the first one's, its register, the part and the vertex in the part."""
+    """Of each vertex of a page, in order: the place of its shape, where `first` is that of the page's first one, the
+    shape's register, the part, and the vertex in the part."""
     return [(first + i, register, part, vertex) for i, (register, _, parts) in enumerate(shapes)
             for part, vertices in enumerate(parts) for vertex in range(len(vertices))]
 
@@ -108,9 +110,11 @@ def seats_of(data, number):
         first += struct.unpack_from("<H", data, at + 6)[0]
         at += 6 + struct.unpack_from("<I", data, at)[0]
     g, _, p = struct.unpack_from("<3H", data, at + 6)
-    registers, counts = struct.unpack_from(f"<{g}I", data, at + 44), struct.unpack_from(f"<{g}H", data, at + 44 + 5 * g)
+    registers = struct.unpack_from(f"<{g}I", data, at + 44)
+    counts = struct.unpack_from(f"<{g}H", data, at + 44 + 5 * g)
     lens = iter(struct.unpack_from(f"<{p}H", data, at + 44 + 7 * g))
-    return seats(first, [(register, None, [range(next(lens)) for _ in range(count)]) for register, count in zip(registers, counts)])
+    parts = [[range(next(lens)) for _ in range(count)] for count in counts]
+    return seats(first, [(register, None, of_shape) for register, of_shape in zip(registers, parts)])
 
 
 def pages_of(data):

@@ -2,8 +2,8 @@
  *
  *     refused WORD FILE...
  *
- * The word is in hexadecimal. Of each file there is a line for its first 0, 1, 2 bytes and so on, up to all of them. These lie in memory of their own with
- * nothing behind them, so that the compiler's watch sees a read that goes too far. */
+ * The word is in hexadecimal. Of each file there is a line for its first 0, 1, 2 bytes and so on, up to all of them.
+ * These lie in memory of their own with nothing behind them, so that the compiler's watch sees a read that goes on. */
 #include <stdio.h>
 #include <stdlib.h>
 #include <string.h>
