@@ -209,18 +209,23 @@ def look_words_that_do_not_belong(tell, folder):
 
 
 def look_tables_that_do_not_fit(tell, folder):
-    """Part counts and lengths that do not reach the value: page, column and value alone."""
+    """Part counts and lengths that do not reach the value, or go on behind the vertices: the line has page, column and
+    value alone."""
     build_refused(folder)
     data, path = file_with("x", b""), f"{folder}/where-tables.boundary"
     counts = 8 + len(made.page(FIRST)) + 44 + 5 * len(SECOND)
     tell.same(struct.unpack_from("<9H", data, counts), (0, 2, 2, 1, 2, 3, 4, 4, 1), "the tables of the second page")
-    for entry, number, value in ((1, 0, 13), (2, 1, 13), (4, 1, 13), (7, 0, 10), (8, 0, 13)):
+    for tables, value in (
+        ((0, 0, 2, 1, 2, 3, 4, 4, 1), 13), ((0, 2, 1, 1, 2, 3, 4, 4, 1), 13), ((0, 2, 2, 1, 1, 3, 4, 4, 1), 13),
+        ((0, 2, 2, 1, 2, 3, 4, 0, 1), 10), ((0, 2, 2, 1, 2, 3, 4, 4, 0), 13), ((0, 2, 2, 9, 2, 3, 4, 4, 0), 13),
+        ((0, 2, 2, 1, 2, 3, 4, 4, 9), 15),
+    ):
         changed = bytearray(data)
-        struct.pack_into("<H", changed, counts + 2 * entry, number)
+        struct.pack_into("<9H", changed, counts, *tables)
         write(path, changed)
         status, lines, aside = refused(folder, (9, 1, 1, value), path)
         line = f"{path}: refused (9), page 1, column x, value {value}: {EITHER}"
-        tell.same((status, lines[-1], aside), (0, line, ""), f"entry {entry} of the tables")
+        tell.same((status, lines[-1], aside), (0, line, ""), f"the tables {tables}")
 
 
 def look_bytes_changed_by_lot(tell, folder):
