@@ -28,28 +28,29 @@ module _ (h : Head) (b : List ℕ) where
   same-refusal : (w : Refusal) (c : ℕ) → w .column ≡ Axis.none → w ≡ onColumn Axis.none (onColumn c w)
   same-refusal w c z = λ i. record { number = w .number; column = z i; index = w .index; page = w .page }
 
-  x-columns : Refuses (InColumns h b) (columnOf Axis.x (xPart h b) (h .v))
-  x-columns =
-      marked-gives _ (onColumn Axis.x) (decodeOf 64 (xPart h b) (h .v))
-      (so-gives _ _ _ (λ w e z. in-x refl (e ∙ ap refused (same-refusal w Axis.x z))) (decode-no-column 64 (xPart h b) (h .v)))
+  module _ (passes : partsRule (typesOf h b) (countsOf h b) (lensOf h b) (h .v) ≡ ok tt) where
+    x-columns : Refuses (InColumns h b) (columnOf Axis.x (xPart h b) (h .v))
+    x-columns =
+        marked-gives _ (onColumn Axis.x) (decodeOf 64 (xPart h b) (h .v))
+        (so-gives _ _ _ (λ w e z. in-x refl passes (e ∙ ap refused (same-refusal w Axis.x z))) (decode-no-column 64 (xPart h b) (h .v)))
 
-  y-columns : (xs : List ℕ) → decodeOf 64 (xPart h b) (h .v) ≡ ok xs → Refuses (InColumns h b) (columnOf Axis.y (yPart h b) (h .v))
-  y-columns xs x =
-      marked-gives _ (onColumn Axis.y) (decodeOf 64 (yPart h b) (h .v))
-      (so-gives _ _ _ (λ w e z. in-y xs refl x (e ∙ ap refused (same-refusal w Axis.y z))) (decode-no-column 64 (yPart h b) (h .v)))
+    y-columns : (xs : List ℕ) → decodeOf 64 (xPart h b) (h .v) ≡ ok xs → Refuses (InColumns h b) (columnOf Axis.y (yPart h b) (h .v))
+    y-columns xs x =
+        marked-gives _ (onColumn Axis.y) (decodeOf 64 (yPart h b) (h .v))
+        (so-gives _ _ _ (λ w e z. in-y xs refl passes x (e ∙ ap refused (same-refusal w Axis.y z))) (decode-no-column 64 (yPart h b) (h .v)))
 
-  vertices-columns : Refuses (InColumns h b) (verticesOf h b)
-  unfolding verticesOf
-  vertices-columns =
-      after-gives _ _ _ x-columns (λ xs e.
-      on-gives _ _ _ (y-columns xs (marked-ok (onColumn Axis.x) _ xs e)) (λ ys. ok-gives _ _))
+    vertices-columns : Refuses (InColumns h b) (verticesOf h b)
+    unfolding verticesOf
+    vertices-columns =
+        after-gives _ _ _ x-columns (λ xs e.
+        on-gives _ _ _ (y-columns xs (marked-ok (onColumn Axis.x) _ xs e)) (λ ys. ok-gives _ _))
 
   -- whatever refuses a page's contents
   pub contents-columns : Refuses (InColumns h b) (contentsOf h b)
   unfolding contentsOf partsRule boxRule listed
   contents-columns =
-      on-gives _ _ _ (rule-gives _ _ _ (neither refl refl refl)) (λ _.
-      on-gives _ _ _ vertices-columns (λ t.
+      after-gives _ _ _ (rule-gives _ _ _ (neither refl refl refl)) (λ u e.
+      on-gives _ _ _ (vertices-columns e) (λ t.
       on-gives _ _ _ (outlines-give _ _ (t .xs) (t .ys) (neither refl refl refl) (neither refl refl refl) (neither refl refl refl) (neither refl refl refl)) (λ _.
       on-gives _ _ _ (rule-gives _ _ _ (neither refl refl refl)) (λ _. ok-gives _ _))))
 
@@ -79,5 +80,5 @@ module _ (h : Head) (b : List ℕ) where
     where
       zero-le : 0 ≤ h .v
       zero-le = omega arith
-  columns-most w (in-x c e) = indexed-most 64 (xPart h b) (h .v) _ (decode-indexed 64 (xPart h b) (h .v) .such _ e)
-  columns-most w (in-y xs c x e) = indexed-most 64 (yPart h b) (h .v) _ (decode-indexed 64 (yPart h b) (h .v) .such _ e)
+  columns-most w (in-x c p e) = indexed-most 64 (xPart h b) (h .v) _ (decode-indexed 64 (xPart h b) (h .v) .such _ e)
+  columns-most w (in-y xs c p x e) = indexed-most 64 (yPart h b) (h .v) _ (decode-indexed 64 (yPart h b) (h .v) .such _ e)

@@ -123,8 +123,8 @@ module _ (h : Head) (b : List ℕ) (few : h .v ≤ 2048) where
   unfolding listed allOf
   told-contents w (neither e c i) =
       told-none w (each-one other (11 ∷ 12 ∷ 13 ∷ 14 ∷ 15 ∷ 16 ∷ []) refl (w .number) e) (both (eq-eqb (w .column) 0 c) (eq-eqb (w .index) 0 i))
-  told-contents w (in-x c e) = told-column w Axis.x c (omega arith) refl (by-bits (xPart h b) _ e) (columns-most h b w (in-x c e))
-  told-contents w (in-y xs c x e) = told-column w Axis.y c (omega arith) refl (by-bits (yPart h b) _ e) (columns-most h b w (in-y xs c x e))
+  told-contents w (in-x c q e) = told-column w Axis.x c (omega arith) refl (by-bits (xPart h b) _ e) (columns-most h b w (in-x c q e))
+  told-contents w (in-y xs c q x e) = told-column w Axis.y c (omega arith) refl (by-bits (yPart h b) _ e) (columns-most h b w (in-y xs c q x e))
 
 -- ---- the pages of a file
 

@@ -16,7 +16,8 @@ use Rattle.le.specs.Number.{number}
 use Rattle.column.specs.Column.{whole}
 use Rattle.column.specs.Read.{endOf, decodeOf}
 use Rattle.frame.specs.declared.head.Head.{Head}
-use Rattle.page.specs.Contents.{xPart, yPart}
+use Rattle.types.specs.Parts.{partsRule}
+use Rattle.page.specs.Contents.{typesOf, countsOf, lensOf, xPart, yPart}
 use Rattle.search.specs.Listed.{listed}
 use Rattle.promises.specs.Numbers as numbers
 
@@ -41,13 +42,14 @@ pub data Indexed (P : ℕ) (s : List ℕ) (n : ℕ) (w : Refusal) : Type 0 where
   -- 10, and N: all values are there in full and end in the last byte, where a bit behind them is not zero
   filled : w .number ≡ Table.fill → w .index ≡ n → whole (endAt P s n) ≡ length s → 2 ^ endAt P s n ≤ number s → Indexed P s n w
 
--- which column of a page its contents are refused for: none, by 11 or 12 to 16; x where the x column is refused; y where the x column is read and
--- the y column is refused. The refusal is the column's own, with its index
+-- which column of a page its contents are refused for: none, by 11 or 12 to 16; x where the tables pass and the x column is refused; y where the x
+-- column is read besides and the y column is refused. The refusal is the column's own, with its index
 pub data InColumns (h : Head) (b : List ℕ) (w : Refusal) : Type 0 where
   neither : listed (w .number) (11 ∷ 12 ∷ 13 ∷ 14 ∷ 15 ∷ 16 ∷ []) ≡ true → w .column ≡ Axis.none → w .index ≡ 0 → InColumns h b w
-  in-x : w .column ≡ Axis.x → decodeOf 64 (xPart h b) (h .v) ≡ refused (onColumn Axis.none w) → InColumns h b w
-  in-y : (xs : List ℕ) → w .column ≡ Axis.y → decodeOf 64 (xPart h b) (h .v) ≡ ok xs → decodeOf 64 (yPart h b) (h .v) ≡ refused (onColumn Axis.none w)
+  in-x : w .column ≡ Axis.x → partsRule (typesOf h b) (countsOf h b) (lensOf h b) (h .v) ≡ ok tt → decodeOf 64 (xPart h b) (h .v) ≡ refused (onColumn Axis.none w)
       → InColumns h b w
+  in-y : (xs : List ℕ) → w .column ≡ Axis.y → partsRule (typesOf h b) (countsOf h b) (lensOf h b) (h .v) ≡ ok tt → decodeOf 64 (xPart h b) (h .v) ≡ ok xs
+      → decodeOf 64 (yPart h b) (h .v) ≡ refused (onColumn Axis.none w) → InColumns h b w
 
 -- over a file: 8, 9 and 10 name a column, x or y, and no other number does; then the index is 0 too
 abbrev pub named : Refusal → Bool
