@@ -1,9 +1,11 @@
 //! Broken variants of the mirror, one thing at a time, to see that the
 //! comparison finds it. The variant is set by `set`, or for the program by
-//! the environment variable COMPARE_BREAK. Those that only another
-//! floating-point mode shows are in broken_modes.rs.
+//! the environment variable COMPARE_BREAK. Those that tell a wrong column or
+//! index are in broken_places.rs, those that only another floating-point mode
+//! shows in broken_modes.rs.
 
 use crate::broken_modes;
+use crate::broken_places;
 use crate::broken_rules as rules;
 use crate::gen::encode::{marker, zigzag};
 use second::writer::PageInput;
@@ -47,7 +49,7 @@ static ACTIVE: AtomicUsize = AtomicUsize::new(0);
 
 /// All variants, those of the modes last.
 fn all() -> impl Iterator<Item = &'static str> {
-    VARIANTS.iter().chain(&broken_modes::VARIANTS).copied()
+    VARIANTS.iter().chain(&broken_places::VARIANTS).chain(&broken_modes::VARIANTS).copied()
 }
 
 /// Sets the variant of a name; false if there is none.
@@ -75,7 +77,7 @@ pub fn on(name: &str) -> bool {
 }
 
 /// The number in a word.
-fn number(word: u64) -> u64 {
+pub fn number(word: u64) -> u64 {
     (word >> 32) & 0xFF
 }
 
@@ -255,7 +257,7 @@ pub fn page(word: u64, state: &mut [u64], buffer: &mut [u8], before: usize, inpu
 
 pub fn close(word: u64, state: &mut [u64]) -> u64 {
     if on("close-high-bit") && number(word) != 0 {
-        return word | 1 << 40;
+        return word | 1 << 54;
     }
     if on("close-not-closed") && word == 0 {
         state[3] = 0;

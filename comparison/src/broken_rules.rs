@@ -1,5 +1,6 @@
 //! Rules got wrong on purpose, for the broken variants of the mirror.
 
+use crate::face::refusal_word;
 use crate::gen::encode::{marker, zigzag};
 use second::bits::{push_field, to_bytes};
 use second::boxes::{Bounds, NO_BOUNDS};
@@ -7,7 +8,7 @@ use second::column::values_of;
 use second::contents::contents;
 use second::frame::{frame, lists_of, Page};
 use second::query::{parse, window_of};
-use second::refusal::Refusal;
+use second::refusal::{refused_at, refused_in, Column, Refusal};
 use second::shapes::{self, parts_of, stretch, Lists};
 
 /// A column in which a step equal to the marker is stored as a step.
@@ -28,31 +29,27 @@ pub fn marker_as_step(values: &[u64], width: u32) -> Vec<u8> {
 /// Rules 12 to 16 over a page in some form.
 pub type Rules = dyn Fn(&Lists, &[u64], &[u64], &Bounds) -> Result<(), u8>;
 
-/// The word of a refusal.
-fn word(refusal: Refusal) -> u64 {
-    (u64::from(refusal.number) << 32) | u64::from(refusal.page)
-}
-
 /// A page's contents with other rules.
-fn judge(page: &Page, rules: &Rules) -> Result<(), u8> {
+fn judge(page: &Page, rules: &Rules) -> Result<(), Refusal> {
     let lists = lists_of(page);
     if !shapes::rule_11(&lists, page.vertices) {
-        return Err(11);
+        return Err(refused_at(11, page.number));
     }
-    let xs = values_of(page.x_column, page.vertices)?;
-    let ys = values_of(page.y_column, page.vertices)?;
-    rules(&lists, &xs, &ys, &page.bounds)
+    let in_column = |column| move |fault| refused_in(fault, page.number, column);
+    let xs = values_of(page.x_column, page.vertices).map_err(in_column(Column::X))?;
+    let ys = values_of(page.y_column, page.vertices).map_err(in_column(Column::Y))?;
+    rules(&lists, &xs, &ys, &page.bounds).map_err(|number| refused_at(number, page.number))
 }
 
 /// The full check with other rules.
 pub fn check_with(file: &[u8], rules: &Rules) -> Option<u64> {
     let frame = match frame(file) {
         Ok(frame) => frame,
-        Err(refusal) => return Some(word(refusal)),
+        Err(refusal) => return Some(refusal_word(refusal)),
     };
     for page in &frame.pages {
-        if let Err(number) = judge(page, rules) {
-            return Some((u64::from(number) << 32) | u64::from(page.number));
+        if let Err(refusal) = judge(page, rules) {
+            return Some(refusal_word(refusal));
         }
     }
     Some(u64::from(frame.shapes))
@@ -150,7 +147,7 @@ pub fn count_by(query: &[u8], file: &[u8], order: &dyn Fn(u64, u64) -> bool) -> 
         if page.vertices > 0 && second::boxes::meet(&window, &page.bounds) {
             match hits(page, &window, order) {
                 Ok(found) => count += found,
-                Err(refusal) => return Some(word(refusal)),
+                Err(refusal) => return Some(refusal_word(refusal)),
             }
         }
     }
@@ -174,7 +171,7 @@ pub fn count_by_page_box(query: &[u8], file: &[u8]) -> Option<u64> {
         }
         match hits(page, &window, &order) {
             Ok(found) => count += found,
-            Err(refusal) => return Some(word(refusal)),
+            Err(refusal) => return Some(refusal_word(refusal)),
         }
     }
     Some(count)

@@ -121,6 +121,17 @@ impl Outcome {
         self.word as u32
     }
 
+    /// The column of its refusal, bits 40 and 41.
+    pub fn column(&self) -> usize {
+        (self.word >> 40 & 3) as usize
+    }
+
+    /// The index of its refusal, bits 42 to 53; all bits from 42 on, so that
+    /// one which should not be there shows.
+    pub fn index(&self) -> u64 {
+        self.word >> 42
+    }
+
     /// The call was not refused.
     pub fn good(&self) -> bool {
         self.number() == 0

@@ -2,15 +2,26 @@
 //! second/ decides; only the words and the rooms of the C face are made here.
 
 use second::query;
-use second::refusal::{refused, Refusal};
+use second::refusal::{refused, Column, Refusal};
 use second::step::{Answer, Position};
 use second::writer::{self, PageInput, State};
 
-/// The word of an answer: what the call says, or the number and the page.
+/// The word of a refusal: the number, the page, the column and the index.
+pub fn refusal_word(refusal: Refusal) -> u64 {
+    let column: u64 = match refusal.column {
+        Column::None => 0,
+        Column::X => 1,
+        Column::Y => 2,
+    };
+    let number = u64::from(refusal.number);
+    (u64::from(refusal.index) << 42) | (column << 40) | (number << 32) | u64::from(refusal.page)
+}
+
+/// The word of an answer: what the call says, or the refusal.
 fn word(answer: Result<u32, Refusal>) -> u64 {
     match answer {
         Ok(says) => u64::from(says),
-        Err(refusal) => (u64::from(refusal.number) << 32) | u64::from(refusal.page),
+        Err(refusal) => refusal_word(refusal),
     }
 }
 

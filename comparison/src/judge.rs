@@ -8,14 +8,14 @@ use crate::real::{run, Seen};
 use crate::text::elements;
 use crate::watch;
 
-/// A word in plain words.
+/// A word in plain words. A bit that should not be there shows in the index.
 pub fn word_text(word: u64) -> String {
-    let number = word >> 32;
-    if number == 0 {
-        format!("{word:#018x} (says {})", word as u32)
-    } else {
-        format!("{word:#018x} (refused {number} page {})", word as u32)
+    if word >> 32 == 0 {
+        return format!("{word:#018x} (says {word})");
     }
+    let (number, page) = (word >> 32 & 0xFF, word as u32);
+    let column = ["none", "x", "y", "3"][(word >> 40 & 3) as usize];
+    format!("{word:#018x} (refused {number} page {page} column {column} index {})", word >> 42)
 }
 
 /// What differs: line by line, and whether it is the answer (the word or the

@@ -7,6 +7,8 @@ pub mod broken;
 #[cfg(feature = "mirror")]
 pub mod broken_modes;
 #[cfg(feature = "mirror")]
+pub mod broken_places;
+#[cfg(feature = "mirror")]
 pub mod broken_rules;
 pub mod call;
 pub mod calls;
@@ -30,6 +32,7 @@ pub mod shrink_files;
 pub mod shrink_pages;
 pub mod signature;
 pub mod sink;
+pub mod sites;
 pub mod tally;
 pub mod text;
 pub mod trim;

@@ -1,7 +1,8 @@
 //! The program `compare`: judges the implementation it is linked with against
-//! second/. It ends with 0 if nothing differs and every refusal number was
-//! reached, with 1 otherwise, with 2 for a wrong command line, and with 3 if
-//! the implementation ended the program or did not come back.
+//! second/. It ends with 0 if nothing differs and every refusal number and
+//! every site of 8, 9 and 10 was reached, with 1 otherwise, with 2 for a wrong
+//! command line, and with 3 if the implementation ended the program or did not
+//! come back.
 
 use comparing::modes::{self, Modes};
 use comparing::options::{parse, Options, Task, USAGE};
@@ -33,6 +34,8 @@ fn run(options: &Options, seed: u64, modes: Option<Modes>) -> bool {
     println!("cases by kind:\n{}", session.tally.kinds_text());
     println!("calls by service and refusal number (0: not refused; .: cannot be given):");
     println!("{}", session.tally.table_text());
+    println!("refusals by 8, 9 and 10 by where in the column, and by service and column (.: cannot be):");
+    println!("{}", session.tally.sites_text());
     println!("{} calls in {:.1} s", session.tally.calls(), started.elapsed().as_secs_f64());
     println!("{} differing cases", session.differences);
     if session.full() {

@@ -9,6 +9,7 @@
 
 use crate::broken;
 use crate::broken_modes;
+use crate::broken_places;
 use crate::face;
 use crate::modes::apart;
 use second::writer::PageInput;
@@ -18,7 +19,10 @@ use std::slice::{from_raw_parts as lent, from_raw_parts_mut as room};
 /// As boundary.h says: each pointer is good for its number of elements.
 #[no_mangle]
 pub unsafe extern "C" fn boundary_check(file: *const u8, len: usize) -> u64 {
-    let word = apart(|| broken::check(file as *mut u8, len).unwrap_or_else(|| face::check(lent(file, len))));
+    let word = apart(|| {
+        let word = broken::check(file as *mut u8, len).unwrap_or_else(|| face::check(lent(file, len)));
+        broken_places::check(word, lent(file, len))
+    });
     broken_modes::check();
     word
 }
@@ -29,7 +33,8 @@ pub unsafe extern "C" fn boundary_check(file: *const u8, len: usize) -> u64 {
 pub unsafe extern "C" fn boundary_count(query: *const u8, query_len: usize, file: *const u8, len: usize) -> u64 {
     let (query, file) = (lent(query, query_len), lent(file, len));
     let in_mode = broken_modes::count(query, file);
-    in_mode.unwrap_or_else(|| apart(|| broken::count(query, file).unwrap_or_else(|| face::count(query, file))))
+    let word = || broken::count(query, file).unwrap_or_else(|| face::count(query, file));
+    in_mode.unwrap_or_else(|| apart(|| broken_places::count(word())))
 }
 
 /// # Safety
@@ -46,7 +51,7 @@ pub unsafe extern "C" fn boundary_search(
     let (query, file, places) = (lent(query, query_len), lent(file, len), room(places, room_len));
     apart(|| {
         let word = face::search(query, file, places);
-        broken::search(word, places)
+        broken_places::search(broken::search(word, places))
     })
 }
 
@@ -72,7 +77,7 @@ pub unsafe extern "C" fn boundary_fetch(
     let (xs, ys) = (room(xs, xs_room), room(ys, ys_room));
     apart(|| {
         let word = face::fetch(file, place, about, lens, xs, ys);
-        broken::fetch(word, about)
+        broken_places::fetch(broken::fetch(word, about), file)
     })
 }
 
@@ -104,7 +109,7 @@ pub unsafe extern "C" fn boundary_column_read(
     let (column, values) = (lent(column, len), room(to, room_len));
     apart(|| {
         let word = face::column_read(column, n, values);
-        broken::column_read(word, column, n, values)
+        broken_places::read(broken::column_read(word, column, n, values), column, n)
     })
 }
 
@@ -121,7 +126,7 @@ pub unsafe extern "C" fn boundary_column_step(
     let (column, position) = (lent(column, len), room(position, position_len));
     apart(|| {
         let word = face::column_step(column, n, position);
-        broken::column_step(word, position)
+        broken_places::step(broken::column_step(word, position), column, position)
     })
 }
 

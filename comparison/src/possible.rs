@@ -12,8 +12,13 @@
 //! - Column step: "its last answer (end, or 3, 8, 9 or 10)"; boundary.h adds
 //!   2 for a position of fewer than four words.
 //! - Open: 2. Page: 18, 3, 6, 11, 12, 13, 14, 15, 2. Close: 18, 3, 2.
+//!
+//! 8, 9 and 10 stand at a site of a column (sites.rs): of x or y where a page
+//! is read, of neither where a column is read alone. A place past the bytes
+//! can only be handed in, so only the step has it.
 
 use crate::signature::Service;
+use crate::sites::Site;
 
 /// The greatest refusal number.
 pub const MOST: usize = 18;
@@ -41,4 +46,19 @@ pub fn numbers(service: Service) -> &'static [usize] {
 /// Whether a service can give a number (0, a good answer, always).
 pub fn can_give(service: Service, number: usize) -> bool {
     number == 0 || numbers(service).contains(&number)
+}
+
+/// The columns that a service can tell with 8, 9 and 10, as a word has them.
+pub fn columns(service: Service) -> &'static [usize] {
+    match service {
+        Service::Check | Service::Count | Service::Search | Service::Fetch => &[1, 2],
+        Service::ColumnRead | Service::ColumnStep => &[0],
+        _ => &[],
+    }
+}
+
+/// Whether a service can refuse at a site.
+pub fn can_stop(service: Service, site: Site) -> bool {
+    let past = matches!(site, Site::PastInside | Site::PastEnd);
+    !columns(service).is_empty() && (!past || service == Service::ColumnStep)
 }

@@ -100,7 +100,7 @@ impl Sink for Session {
         let setting = setting.as_ref();
         match judge(&call, setting) {
             Ok(outcome) => {
-                self.tally.call(call.service, &outcome);
+                self.tally.call(&call, &outcome);
                 Ok(outcome)
             }
             Err(first) => {

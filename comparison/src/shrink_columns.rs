@@ -48,7 +48,8 @@ fn values_given(column: &[u8], n: usize) -> Vec<u64> {
 fn read(call: &Call, values: &[u64], range: (usize, usize)) -> Call {
     let rest = without(values, range);
     let mut column = encode(&rest, u32::from(call.bytes(0)[0].min(64)), &|_| false);
-    let fill = second::column::values_of(call.bytes(0), values.len()) == Err(10);
+    let fault = second::column::values_of(call.bytes(0), values.len()).err();
+    let fill = fault.map_or(false, |fault| fault.number == 10);
     if let (true, Some(last)) = (fill, column.last_mut()) {
         *last |= 0x80;
     }

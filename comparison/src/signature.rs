@@ -1,7 +1,7 @@
 //! The ten services of boundary.h: their numbers, names and arguments.
 
 /// A service, in the order of the corpus format.
-#[derive(Clone, Copy, Debug, PartialEq, Eq)]
+#[derive(Clone, Copy, Debug, PartialEq, Eq, Hash)]
 pub enum Service {
     Check,
     Count,

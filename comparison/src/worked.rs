@@ -1,5 +1,6 @@
 //! The worked numbers of document 01 that are not marked P, as calls: the
-//! sample file and its queries, the limits of vertices, the grid.
+//! sample file and its queries, the limits of vertices, the grid. Last the
+//! greatest index there is, which no small case has.
 
 use crate::call::Call;
 use crate::calls::{check, column_read, column_step, column_write, count, fetch, page, search, FetchRooms};
@@ -84,7 +85,32 @@ fn grid() -> Vec<Call> {
     calls
 }
 
+/// Of 2,048 values the last byte cut, a byte left over and the fill bit set: a
+/// column stepped over value 2,041 and from its end, and a page's x and y. The
+/// values are equal, so at width 1 each entry is one bit: that of value 2,041
+/// is the first of the last byte, and that of the last is bit 2,118.
+fn greatest_index() -> Vec<Call> {
+    let column = crate::gen::encode::encode(&[0; 2048], 1, &|_| false);
+    let (cut, over) = (column[..264].to_vec(), [&column[..], &[0]].concat());
+    let mut filled = column.clone();
+    filled[264] |= 0x80;
+    let line = Shape { register: 1, kind: 2, parts: vec![vec![(0, 0); 2048]] };
+    let mut calls = Vec::new();
+    for bad in [cut, over, filled] {
+        calls.push(column_step(&bad, 2048, &[2112, 2041, 1, 0]));
+        calls.push(column_step(&bad, 2048, &[2119, 2048, 1, 0]));
+        for x in [true, false] {
+            let mut fields = Fields::of(&mut Rng::of_case(1, 1, 1), std::slice::from_ref(&line));
+            let (bytes, length) = if x { (&mut fields.x, &mut fields.cx) } else { (&mut fields.y, &mut fields.cy) };
+            *bytes = bad.clone();
+            *length = bad.len() as u32;
+            calls.push(check(&Parts::of(vec![fields]).bytes()));
+        }
+    }
+    calls
+}
+
 /// All worked calls.
 pub fn calls() -> Vec<Call> {
-    [sample(), limits(), grid()].concat()
+    [sample(), limits(), grid(), greatest_index()].concat()
 }

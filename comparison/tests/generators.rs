@@ -1,18 +1,22 @@
 //! The generators and the corpus by themselves, with second/ as the judge.
 
 use comparing::call::{bytes_in, bytes_of, list_of, Arg, Call, Outcome};
+use comparing::calls::column_read;
 use comparing::corpus::{gather, line, record, too_large};
 use comparing::expected::expected;
 use comparing::face;
+use comparing::gen::aimed;
 use comparing::gen::draft::draft;
 use comparing::gen::encode::encode;
 use comparing::gen::plan::{plan, Plan, PAGE_FAULTS};
 use comparing::gen::{run_cases, tiny_cases};
 use comparing::gen::floats::{SIGN, SUBNORMAL};
 use comparing::gen::values::{values, SORTS};
+use comparing::judge::word_text;
 use comparing::rng::Rng;
 use comparing::signature::{Service, SERVICES};
 use comparing::sink::{Sink, Stop};
+use comparing::sites::{self, Site, FROM_START, SITES};
 use comparing::text::{call_text, read_call};
 use comparing::worked;
 
@@ -56,7 +60,8 @@ fn planned_faults_give_their_number_on_their_page() {
                 let plan = plan(&mut rng, index);
                 assert_eq!(plan.faults[0].0, *number);
                 let word = face::check(&draft(&mut rng, &plan).bytes);
-                exactly += usize::from(word == (*number as u64) << 32 | plan.faults[0].1 as u64);
+                let low = word & 0xFF_FFFF_FFFF; // without column and index
+                exactly += usize::from(low == (*number as u64) << 32 | plan.faults[0].1 as u64);
             }
             assert!(exactly >= 8, "number {number} place {place}: {exactly} of 40");
         }
@@ -97,7 +102,7 @@ fn call_of(mut bytes: &[u8]) -> Call {
 #[test]
 fn the_corpus_can_be_read_again_and_is_within_its_sizes() {
     let corpus = gather(6);
-    assert!(corpus.cases.len() >= 500 && corpus.cases.len() <= 700);
+    assert!(corpus.cases.len() >= 500 && corpus.cases.len() <= 800);
     let (mut input, mut output) = (0, 0);
     for (call, outcome) in &corpus.cases {
         let record = record(call);
@@ -105,12 +110,12 @@ fn the_corpus_can_be_read_again_and_is_within_its_sizes() {
         assert_eq!(&call_of(&record), call);
         let text = line(call, outcome);
         assert_eq!(text, line(call, &expected(call)));
-        assert_eq!(text.trim_end().split(' ').count(), 3 + call.service.params().iter().filter(|p| p.writable).count());
+        assert_eq!(text.trim_end().split(' ').count(), 5 + call.service.params().iter().filter(|p| p.writable).count());
         input += 4 + record.len();
         output += text.len();
     }
     assert!(input < 600_000 && output < 600_000, "{input} in, {output} out");
-    assert!(corpus.missing().iter().all(|(service, number)| too_large(*service, *number)));
+    assert!(corpus.missing().iter().all(|cell| too_large(cell.service, cell.number)));
     assert_eq!(corpus.missing().len(), 4);
 }
 
@@ -135,6 +140,80 @@ fn the_worked_numbers_are_those_of_the_document() {
     assert_eq!(words[26..36], [0, 1, 0, 1, fourteen, fourteen, fourteen, fourteen, fourteen, fourteen]);
     let window = expected(&worked::calls()[10]);
     assert_eq!(window.list::<u32>(2)[0], 0);
+}
+
+/// The word of a refusal on page 0, as boundary.h has it.
+const fn told(number: u64, column: u64, index: u64) -> u64 {
+    index << 42 | column << 40 | number << 32
+}
+
+#[test]
+fn the_greatest_index_is_told() {
+    let words: Vec<u64> = worked::calls()[36..].iter().map(|call| expected(call).word).collect();
+    // Cut in the last byte, a byte left over, a fill bit: two steps, then a file by its x and by its y.
+    assert_eq!(words[..4], [told(9, 0, 2041), told(9, 0, 2048), told(9, 1, 2041), told(9, 2, 2041)]);
+    assert_eq!(words[4..8], [1, told(9, 0, 2048), told(9, 1, 2048), told(9, 2, 2048)]);
+    assert_eq!(words[8..], [1, told(10, 0, 2048), told(10, 1, 2048), told(10, 2, 2048)]);
+}
+
+/// The document's column of 0, 2^40, 2^40 + 1: its values end at the bits 72,
+/// 138 and 140 of 144.
+const WORKED: [u8; 18] = [2, 0, 0, 0, 0, 0, 0, 0, 0, 3, 0, 0, 0, 0, 4, 0, 0, 8];
+
+#[test]
+fn a_site_is_found_where_the_column_stops() {
+    let mut over = WORKED.to_vec();
+    over.push(0);
+    let mut filled = WORKED.to_vec();
+    filled[17] |= 0x10;
+    let cases: [(&[u8], usize, Site, u64); 12] = [
+        (&[65; 18], 3, Site::WidthOver, 0),
+        (&[], 3, Site::NoWidth, 0),
+        (&WORKED[..1], 3, Site::FirstCut, 0),
+        (&WORKED[..8], 3, Site::FirstCut, 0),
+        (&WORKED[..9], 3, Site::EntryCut, 1),
+        (&WORKED[..10], 3, Site::MarkedCut, 1),
+        (&WORKED[..17], 3, Site::MarkedCut, 1),
+        (&WORKED, 9, Site::EntryCut, 5),
+        (&WORKED, 1, Site::LeftOver, 1),
+        (&over, 3, Site::LeftOver, 3),
+        (&filled, 3, Site::Fill, 3),
+        (&[0], 0, Site::LeftOver, 0),
+    ];
+    for (column, n, site, index) in cases {
+        assert_eq!(sites::of_column(column, n), (site, index), "{} bytes of {n}", column.len());
+        let read = expected(&column_read(column, n as u64, n));
+        assert_eq!(read.word, told(site.refusal() as u64, 0, index), "{} bytes of {n}", column.len());
+    }
+}
+
+#[test]
+fn a_column_aimed_at_a_site_is_refused_there() {
+    let mut missed = 0;
+    for index in 0..1400 {
+        let mut rng = Rng::of_case(8, 53, index);
+        let list = values(&mut rng, index as usize % SORTS.len(), 3 + index as usize % 30);
+        let site = SITES[index as usize % FROM_START];
+        let column = aimed::column(&mut rng, &list, site);
+        match second::column::values_of(&column, list.len()) {
+            Ok(own) => {
+                assert_eq!(own, list, "a column that has no such site is left whole");
+                missed += 1;
+            }
+            Err(_) => assert_eq!(sites::of_column(&column, list.len()).0, site, "index {index}"),
+        }
+    }
+    assert!(missed < 40, "{missed} of 1,400 are not refused");
+}
+
+#[test]
+fn a_word_is_told_in_full() {
+    assert_eq!(word_text(5), "0x0000000000000005 (says 5)");
+    assert_eq!(word_text(told(9, 2, 2048) | 7), "0x0020020900000007 (refused 9 page 7 column y index 2048)");
+    assert_eq!(word_text(told(11, 0, 0)), "0x0000000b00000000 (refused 11 page 0 column none index 0)");
+    // A bit that should not be there, with a number and without one.
+    assert_eq!(word_text(told(2, 0, 4096)), "0x0040000200000000 (refused 2 page 0 column none index 4096)");
+    assert_eq!(word_text(told(0, 1, 0)), "0x0000010000000000 (refused 0 page 0 column x index 0)");
 }
 
 /// A taker of calls whose fetches give one vertex wrong, if told so: what

@@ -1,11 +1,13 @@
 //! The comparison tried on the mirror: on the good one it finds nothing and
-//! reaches every number; each broken variant is found, shrunk and saved.
+//! reaches every number and site; each broken variant is found, shrunk and saved.
 
 use comparing::broken::{set, VARIANTS};
+use comparing::broken_places;
 use comparing::judge::judge;
 use comparing::modes::{self, Modes, State, CLEAR};
 use comparing::options::{parse, Task, COUNTS};
 use comparing::session::Session;
+use comparing::tally::Tally;
 use comparing::text::{read_call, read_mode};
 use comparing::turns;
 use std::path::{Path, PathBuf};
@@ -35,7 +37,7 @@ fn folder(name: &str) -> PathBuf {
 }
 
 #[test]
-fn the_good_mirror_has_no_difference_and_every_number_is_reached() {
+fn the_good_mirror_has_no_difference_and_every_number_and_site_is_reached() {
     let _turn = variant("none");
     let mut session = Session::new(11, Some(folder("none")));
     turns::run(&mut session, 11, [2_000, 1_000, 400]);
@@ -51,6 +53,22 @@ fn too_few_cases_are_not_enough() {
     assert_eq!(session.differences, 0);
     let missing = session.tally.missing();
     assert!(missing.contains(&String::from("boundary_check never gave 3")), "{missing:?}");
+    let site = String::from("boundary_search never stopped, column y: cut behind a marker");
+    assert!(missing.contains(&site), "{missing:?}");
+}
+
+#[test]
+fn a_place_that_the_call_does_not_have_is_not_good() {
+    let call = comparing::calls::column_read(&[2, 0], 5, 5);
+    let mut outcome = comparing::expected::expected(&call);
+    for (wrong, faults) in [(0, 0), (1 << 40, 1), (1 << 42, 1), (1 << 54, 1)] {
+        let mut tally = Tally::default();
+        outcome.word ^= wrong;
+        tally.call(&call, &outcome);
+        outcome.word ^= wrong;
+        let told = tally.missing().iter().filter(|line| line.starts_with("second/ tells ")).count();
+        assert_eq!(told, faults, "{wrong:#x}");
+    }
 }
 
 /// How many columns, files and writer runs a broken variant is tried on: those of the service that its name begins with, and no others.
@@ -80,7 +98,7 @@ fn found(name: &str) -> Vec<PathBuf> {
 
 #[test]
 fn each_broken_variant_is_found_shrunk_and_saved() {
-    for name in VARIANTS.iter().filter(|name| **name != "none") {
+    for name in VARIANTS.iter().chain(&broken_places::VARIANTS).filter(|name| **name != "none") {
         let _turn = variant(name);
         let saved = found(name);
         assert_eq!(saved.len(), 1, "{name}");
@@ -90,7 +108,8 @@ fn each_broken_variant_is_found_shrunk_and_saved() {
         assert!(again.is_err(), "{name}: the saved case still differs");
         assert!(set("none"));
         assert!(judge(&call, None).is_ok(), "{name}: the good mirror has no difference in it");
-        if *name != "check-1025-is-4" {
+        let large = *name == "check-1025-is-4" || broken_places::FULL.contains(name);
+        if !large {
             assert!(text.len() < 20_000, "{name}: shrunk only to {} bytes of text", text.len());
         }
     }

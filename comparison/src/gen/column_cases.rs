@@ -1,13 +1,16 @@
 //! The cases of a column: written with all rooms, read back, read in other
-//! permitted forms, read damaged, and given value by value.
+//! permitted forms, read damaged and refused at each site, and given value by
+//! value.
 
 use crate::calls::{column_read, column_write};
+use crate::gen::aimed;
 use crate::gen::column_damage::damaged;
 use crate::gen::encode::encode;
 use crate::gen::step_cases;
 use crate::gen::values::{length, values, SORTS};
 use crate::rng::Rng;
 use crate::sink::{Sink, Stop};
+use crate::sites::{FROM_START, SITES};
 
 /// The case of one index.
 pub fn case(sink: &mut dyn Sink, rng: &mut Rng, index: u64) -> Result<(), Stop> {
@@ -26,6 +29,7 @@ pub fn case(sink: &mut dyn Sink, rng: &mut Rng, index: u64) -> Result<(), Stop> 
             step_cases::run(sink, &bad, list.len() as u64)?;
         }
     }
+    at_a_site(sink, rng, &list, index)?;
     if list.len() < 300 || rng.once_in(8) {
         step_cases::run(sink, &column, list.len() as u64)?;
     }
@@ -36,6 +40,18 @@ pub fn case(sink: &mut dyn Sink, rng: &mut Rng, index: u64) -> Result<(), Stop> 
         }
     }
     step_cases::made_up(sink, rng, &column, list.len())
+}
+
+/// The values in a form that is refused at a site, the sites in turn: read,
+/// and given value by value.
+fn at_a_site(sink: &mut dyn Sink, rng: &mut Rng, list: &[u64], index: u64) -> Result<(), Stop> {
+    let list = &list[..list.len().min(2048)];
+    let bad = aimed::column(rng, list, SITES[index as usize % FROM_START]);
+    read(sink, &bad, list.len() as u64, list.len())?;
+    if list.len() < 300 || rng.once_in(8) {
+        step_cases::run(sink, &bad, list.len() as u64)?;
+    }
+    Ok(())
 }
 
 /// Writes the values with several rooms; the column's bytes (for too many

@@ -4,9 +4,10 @@ use crate::gen::fields::{Fields, Parts};
 use crate::gen::floats::SIGN;
 use crate::gen::pages;
 use crate::gen::plan::Plan;
-use crate::gen::shapes::{ground, shape, Shape};
-use crate::gen::{field_damage, file_damage, shape_damage};
+use crate::gen::shapes::{ground, lists, shape, Shape};
+use crate::gen::{aimed, field_damage, file_damage, shape_damage};
 use crate::rng::Rng;
+use crate::sites::Site;
 
 /// The draft.
 pub struct Draft {
@@ -33,12 +34,43 @@ fn shapes(rng: &mut Rng, plan: &Plan) -> Vec<Vec<Shape>> {
                 _ => shape_damage::damage(rng, page, *number),
             }
             if *number == 10 {
-                let ground = ground(rng);
-                page.push(shape(rng, 2, &ground));
+                page.push(line(rng));
             }
         }
     }
+    if let Some((page, ..)) = plan.stop {
+        all[page] = enough(rng);
+    }
     all
+}
+
+/// A line, of two vertices at least.
+fn line(rng: &mut Rng) -> Shape {
+    let ground = ground(rng);
+    shape(rng, 2, &ground)
+}
+
+/// A page with vertices enough for every site of a column: now and then with
+/// as many as there can be.
+fn enough(rng: &mut Rng) -> Vec<Shape> {
+    if rng.once_in(6) {
+        return pages::full(rng);
+    }
+    let mut page = pages::small(rng);
+    page.push(line(rng));
+    page
+}
+
+/// Puts a column that is refused at a site in the place of a page's own.
+fn stop(rng: &mut Rng, fields: &mut Fields, shapes: &[Shape], column: usize, site: Site) {
+    let lists = lists(shapes);
+    if column == 1 {
+        fields.x = aimed::column(rng, &lists.xs, site);
+        fields.cx = fields.x.len() as u32;
+    } else {
+        fields.y = aimed::column(rng, &lists.ys, site);
+        fields.cy = fields.y.len() as u32;
+    }
 }
 
 /// A column has fill bits: one of them set gives 10.
@@ -47,7 +79,7 @@ fn has_fill(column: &[u8], count: usize) -> bool {
     if let Some(last) = filled.last_mut() {
         *last |= 0x80;
     }
-    second::column::values_of(&filled, count) == Err(10)
+    second::column::values_of(&filled, count).map_err(|fault| fault.number) == Err(10)
 }
 
 /// The page's fields in a form in which both columns have fill bits, if one
@@ -87,6 +119,9 @@ pub fn draft(rng: &mut Rng, plan: &Plan) -> Draft {
                 *one = with_fill(rng, one, &shapes[*page]);
             }
         }
+    }
+    if let Some((page, column, site)) = plan.stop {
+        stop(rng, &mut fields[page], &shapes[page], column, site);
     }
     for one in &mut fields {
         zero_signs(rng, one);

@@ -1,5 +1,6 @@
 //! The generators of cases: columns, files and writer runs.
 
+pub mod aimed;
 pub mod column_cases;
 pub mod column_damage;
 pub mod draft;

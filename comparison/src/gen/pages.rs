@@ -34,7 +34,7 @@ fn walked(rng: &mut Rng, k: usize) -> (u64, u64) {
 }
 
 /// Exactly 2,048 vertices: a line, many points, or 256 shapes.
-fn full(rng: &mut Rng) -> Vec<Shape> {
+pub fn full(rng: &mut Rng) -> Vec<Shape> {
     let all: Vec<(u64, u64)> = (0..MOST_VERTICES).map(|k| walked(rng, k)).collect();
     let register = rng.word() as u32;
     match rng.below(3) {

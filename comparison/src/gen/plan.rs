@@ -2,6 +2,7 @@
 //! through every number on the first, a middle and the last page.
 
 use crate::rng::Rng;
+use crate::sites::{Site, COLUMNS, FROM_START, SITES};
 
 /// The numbers of faults that lie in a page.
 pub const PAGE_FAULTS: [usize; 13] = [4, 5, 6, 7, 8, 9, 10, 11, 12, 13, 14, 15, 16];
@@ -13,6 +14,8 @@ pub struct Plan {
     pub pages: usize,
     /// Faults of pages: number and page.
     pub faults: Vec<(usize, usize)>,
+    /// A column that is refused at a site: page, column (1 x, 2 y), site.
+    pub stop: Option<(usize, usize, Site)>,
     /// How many times the first or end block is damaged.
     pub frame: usize,
     /// How many times page blocks are swapped, doubled or dropped.
@@ -44,6 +47,15 @@ fn single(rng: &mut Rng, turn: usize) -> Plan {
     };
     let kind = format!("file: fault {number} on the {place} page");
     Plan { kind, pages, faults: vec![(number, page)], ..Plan::default() }
+}
+
+/// The x or the y column of one of a few pages refused at a site, in turn.
+fn stopped(rng: &mut Rng, turn: usize) -> Plan {
+    let site = SITES[turn % FROM_START];
+    let column = 1 + turn / FROM_START % 2;
+    let pages = 1 + rng.below(3);
+    let kind = format!("file: {}, column {}", site.name(), COLUMNS[column]);
+    Plan { kind, pages, stop: Some((rng.below(pages), column, site)), ..Plan::default() }
 }
 
 /// Two or three faults at once, on the same page or on different ones.
@@ -93,6 +105,7 @@ fn rough(rng: &mut Rng) -> Plan {
 /// The plan of an index.
 pub fn plan(rng: &mut Rng, index: u64) -> Plan {
     match index % 4 {
+        0 if index % 8 == 4 => stopped(rng, (index / 8) as usize),
         0 => Plan { kind: String::from("file: sound"), pages: page_count(rng), ..Plan::default() },
         1 => single(rng, (index / 4) as usize),
         2 => several(rng),
