@@ -3,10 +3,10 @@
 //
 // A case is a record: the length of the rest (u32), the number of a service (u8), and the call's arguments in the order of include/boundary.h. All
 // numbers are little-endian. A slice is the number of its elements (u32) and then the elements, a room that the call writes to among them, with what
-// it holds before the call; a plain number is a u64. A line is the service, the refusal's number and the low 32 bits of the answer, in decimal, and
-// then each room after the call, in hexadecimal, or `-` where it has no element. A record that is not just so, or over a limit, ends the run with the
-// line `malformed`. The limits, in elements: a position, a writer's state or about 8; registers, types, counts or places 300; lens, xs, ys, values or a
-// room for values 2,100; the bytes of a column or a buffer 20,000; a record 65,000.
+// it holds before the call; a plain number is a u64. A line is the service, the refusal's number, the low 32 bits of the answer, the column and the
+// index, in decimal, and then each room after the call, in hexadecimal, or `-` where it has no element. A record that is not just so, or over a limit,
+// ends the run with the line `malformed`. The limits, in elements: a position, a writer's state or about 8; registers, types, counts or places 300;
+// lens, xs, ys, values or a room for values 2,100; the bytes of a column or a buffer 20,000; a record 65,000.
 mod columns;
 mod copies;
 mod fetched;

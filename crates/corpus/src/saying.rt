@@ -12,13 +12,18 @@ fn number(n: u64) -> bool {
     io::print_decimal(STDOUT_FILENO, n)
 }
 
-// The service, and the answer taken apart: the refusal's number, then what the call says, or the page.
+// The service, and the answer taken apart: the refusal's number, then what the call says, or the page, then the column and the index. The index is
+// all that stands above the column, so that a bit which should not be there shows.
 pub(crate) fn answered(service: u64, word: u64) {
     number(service);
     say(b" ");
     number(word / 4294967296 % 256);
     say(b" ");
     number(word % 4294967296);
+    say(b" ");
+    number(word / 1099511627776 % 4);
+    say(b" ");
+    number(word / 4398046511104);
 }
 
 // The end of a line.
