@@ -8,9 +8,15 @@
 #include <string.h>
 
 #define SAMPLE 260      /* bytes of the sample file, of which 246 stand before the end block */
-#define X_COLUMN 78     /* where the x column of its first page starts, and its bytes */
+#define FIRST_PAGE 8    /* where the length of its first page's block stands, and the lengths of that page's columns */
+#define COLUMN_LENGTHS 70
+#define X_COLUMN 78     /* where the x column of its first page starts, and its bytes; the y column has as many */
 #define X_BYTES 34
-#define SECOND_TYPES 198 /* where the types of its second page stand */
+#define X_VALUES 6
+#define SECOND_PAGE 146 /* where its second page's block starts, its types, and its columns */
+#define SECOND_TYPES 198
+#define SECOND_X 214
+#define SECOND_Y 230
 #define GUARD 4
 
 /* All that is lent to be written to. */
@@ -58,9 +64,18 @@ static void fresh(void)
     kept = now;
 }
 
+/* A refusal that tells just this, bit by bit and by the header's words. */
+static int tells(uint64_t word, enum boundary_refusal number, uint32_t page, enum boundary_column column, uint32_t index)
+{
+    const uint64_t due = (uint64_t)index << 42 | (uint64_t)column << 40 | (uint64_t)number << 32 | page;
+    return word == due && BOUNDARY_NUMBER(word) == (uint32_t)number && BOUNDARY_PAGE(word) == page &&
+           BOUNDARY_COLUMN(word) == (uint32_t)column && BOUNDARY_INDEX(word) == index;
+}
+
+/* A refusal that tells neither column nor index. */
 static int refused(uint64_t word, enum boundary_refusal number, uint32_t page)
 {
-    return BOUNDARY_NUMBER(word) == (uint32_t)number && BOUNDARY_PAGE(word) == page && word >> 40 == 0;
+    return tells(word, number, page, BOUNDARY_COLUMN_NONE, 0);
 }
 
 /* A refusal by that number, which concerns no page and has changed nothing. */
@@ -68,6 +83,13 @@ static int refused(uint64_t word, enum boundary_refusal number, uint32_t page)
     do {                                           \
         EXPECT(refused((call), (number), 0));      \
         EXPECT(same());                            \
+    } while (0)
+
+/* A refusal of a column that is read alone, at that value. */
+#define REFUSED_AT(call, number, index)                                            \
+    do {                                                                           \
+        EXPECT(tells((call), (number), 0, BOUNDARY_COLUMN_NONE, (index)));         \
+        EXPECT(same());                                                            \
     } while (0)
 
 /* The call says that number; what it is to put is put in `kept` first. */
@@ -82,6 +104,22 @@ static uint64_t pattern(double x)
     uint64_t bits;
     memcpy(&bits, &x, sizeof bits);
     return bits;
+}
+
+/* ---- a word taken apart */
+
+/* Each part by itself, beside all others, and without the bits that no answer has. */
+static void taking_apart(void)
+{
+    const uint64_t number = UINT64_C(9) << 32, y = UINT64_C(2) << 40, index = UINT64_C(2048) << 42, above = UINT64_C(0xFFFFC) << 40;
+    EXPECT(BOUNDARY_NUMBER(number) == 9 && BOUNDARY_COLUMN(number) == 0 && BOUNDARY_INDEX(number) == 0);
+    EXPECT(BOUNDARY_NUMBER(y) == 0 && BOUNDARY_COLUMN(y) == BOUNDARY_COLUMN_Y && BOUNDARY_INDEX(y) == 0);
+    EXPECT(BOUNDARY_NUMBER(index) == 0 && BOUNDARY_COLUMN(index) == 0 && BOUNDARY_INDEX(index) == BOUNDARY_MOST_VALUES);
+    EXPECT(BOUNDARY_SAYS(above | y | index | number | 7) == 7 && BOUNDARY_PAGE(above | y | index | number | 7) == 7);
+    EXPECT(BOUNDARY_NUMBER((UINT64_C(0x3FFF) << 40) | number) == BOUNDARY_REFUSED_BITS);
+    EXPECT(BOUNDARY_COLUMN(above | number) == BOUNDARY_COLUMN_NONE && BOUNDARY_COLUMN(above | y) == BOUNDARY_COLUMN_Y);
+    EXPECT(BOUNDARY_INDEX(UINT64_MAX) == 4095 && BOUNDARY_COLUMN(UINT64_MAX) == 3 && BOUNDARY_NUMBER(UINT64_MAX) == 255);
+    EXPECT(BOUNDARY_INDEX((UINT64_C(1023) << 54) | index) == BOUNDARY_MOST_VALUES);
 }
 
 /* ---- the sample's pages, and pages that are refused */
@@ -359,10 +397,10 @@ static void columns_refused(void)
     fresh();
     REFUSED(boundary_column_read(filled, 10, 2049, now.values, 8), BOUNDARY_REFUSED_MANY);
     REFUSED(boundary_column_read(filled, 10, 2, now.values, 1), BOUNDARY_REFUSED_ROOM);
-    REFUSED(boundary_column_read(wide, 10, 2, now.values, 8), BOUNDARY_REFUSED_WIDTH);
-    REFUSED(boundary_column_read(filled, 9, 2, now.values, 8), BOUNDARY_REFUSED_BITS);
-    REFUSED(boundary_column_read(filled, 10, 2, now.values, 8), BOUNDARY_REFUSED_FILL);
-    REFUSED(boundary_column_read(filled, 1, 0, now.values, 8), BOUNDARY_REFUSED_BITS);
+    REFUSED_AT(boundary_column_read(wide, 10, 2, now.values, 8), BOUNDARY_REFUSED_WIDTH, 0);
+    REFUSED_AT(boundary_column_read(filled, 9, 2, now.values, 8), BOUNDARY_REFUSED_BITS, 1);
+    REFUSED_AT(boundary_column_read(filled, 10, 2, now.values, 8), BOUNDARY_REFUSED_FILL, 2);
+    REFUSED_AT(boundary_column_read(filled, 1, 0, now.values, 8), BOUNDARY_REFUSED_BITS, 0);
 }
 
 /* The x column of the sample's first page, where it stands: read at once, and one value a call. */
@@ -383,13 +421,13 @@ static void reading_in_place(void)
         EXPECT(same());
     }
     SAYS(boundary_column_step(now.file + X_COLUMN, X_BYTES, 6, now.position, 4), 0);
-    REFUSED(boundary_column_step(now.file + X_COLUMN, X_BYTES + 1, 6, now.position, 4), BOUNDARY_REFUSED_BITS);
-    REFUSED(boundary_column_step(now.file + X_COLUMN, X_BYTES - 1, 6, now.position, 4), BOUNDARY_REFUSED_BITS);
+    REFUSED_AT(boundary_column_step(now.file + X_COLUMN, X_BYTES + 1, 6, now.position, 4), BOUNDARY_REFUSED_BITS, 6);
+    REFUSED_AT(boundary_column_step(now.file + X_COLUMN, X_BYTES - 1, 6, now.position, 4), BOUNDARY_REFUSED_BITS, 6);
     REFUSED(boundary_column_step(now.file + X_COLUMN, X_BYTES, 2049, now.position, 4), BOUNDARY_REFUSED_MANY);
     REFUSED(boundary_column_step(now.file + X_COLUMN, X_BYTES, 6, now.position, 3), BOUNDARY_REFUSED_ROOM);
     now.position[2] = 65;
     kept = now;
-    REFUSED(boundary_column_step(now.file + X_COLUMN, X_BYTES, 6, now.position, 4), BOUNDARY_REFUSED_WIDTH);
+    REFUSED_AT(boundary_column_step(now.file + X_COLUMN, X_BYTES, 6, now.position, 4), BOUNDARY_REFUSED_WIDTH, 0);
 }
 
 /* ---- fetch */
@@ -422,6 +460,196 @@ static void fetching(void)
     SAYS(fetch(3, 4, 0, 0, 0) >> 32, BOUNDARY_REFUSED_PARTS);
 }
 
+/* ---- where in the page: the column and the value of a refusal */
+
+/* Six equal values at width 3: the entries start at bit 72 and take three bits each, so they end at bit 87 of 88. */
+#define STEPS_BYTES 11
+static uint8_t steps[STEPS_BYTES + 1], wide_steps[STEPS_BYTES], filled_steps[STEPS_BYTES];
+
+/* The x column of the sample's first page has width 1. Its values 2, 4 and 5 stand behind a marker each: value 2 from bit 73 on, value 4 from 139 on
+ * and value 5 from 204 on, in 65 bits each. */
+static uint8_t jumps[X_BYTES + 1];
+
+/* A column of six values that is refused, by which number and at which value. */
+struct faulty {
+    const uint8_t *bytes;
+    size_t len;
+    enum boundary_refusal number;
+    uint32_t index;
+};
+
+static const struct faulty faults[] = {
+    {wide_steps, STEPS_BYTES, BOUNDARY_REFUSED_WIDTH, 0},
+    {wide_steps, 1, BOUNDARY_REFUSED_WIDTH, 0},
+    {steps, 0, BOUNDARY_REFUSED_BITS, 0},                        /* no width */
+    {steps, 1, BOUNDARY_REFUSED_BITS, 0},                        /* no first pattern, and one that is cut */
+    {steps, 8, BOUNDARY_REFUSED_BITS, 0},
+    {steps, 9, BOUNDARY_REFUSED_BITS, 1},                        /* an entry that is not there, and one of which two bits of three are */
+    {steps, 10, BOUNDARY_REFUSED_BITS, 3},
+    {jumps, 10, BOUNDARY_REFUSED_BITS, 2},                       /* cut behind a marker: 6 bits of 64, 62 and so on */
+    {jumps, 17, BOUNDARY_REFUSED_BITS, 2},
+    {jumps, 18, BOUNDARY_REFUSED_BITS, 4},
+    {jumps, 33, BOUNDARY_REFUSED_BITS, 5},
+    {steps, STEPS_BYTES + 1, BOUNDARY_REFUSED_BITS, X_VALUES},   /* a byte left over */
+    {jumps, X_BYTES + 1, BOUNDARY_REFUSED_BITS, X_VALUES},
+    {filled_steps, STEPS_BYTES, BOUNDARY_REFUSED_FILL, X_VALUES}
+};
+#define FAULTS (sizeof faults / sizeof faults[0])
+
+static void make_columns(void)
+{
+    memset(steps, 0, sizeof steps);
+    steps[0] = 3;
+    memcpy(wide_steps, steps, STEPS_BYTES);
+    wide_steps[0] = 65;
+    memcpy(filled_steps, steps, STEPS_BYTES);
+    filled_steps[STEPS_BYTES - 1] = 0x80;
+    memcpy(jumps, sample + X_COLUMN, X_BYTES);
+    jumps[X_BYTES] = 0;
+}
+
+/* The column read alone, and one value a call from a fresh position: both end in the same refusal. */
+static void alone(const struct faulty *f)
+{
+    uint64_t word, given = 0;
+    fresh();
+    REFUSED_AT(boundary_column_read(f->bytes, f->len, X_VALUES, now.values, 8), f->number, f->index);
+    memset(now.position, 0, 4 * sizeof now.position[0]);
+    kept = now;
+    while ((word = boundary_column_step(f->bytes, f->len, X_VALUES, now.position, 4)) == 1) {
+        memcpy(kept.position, now.position, 4 * sizeof now.position[0]);
+        given++;
+    }
+    EXPECT(tells(word, f->number, 0, BOUNDARY_COLUMN_NONE, f->index));
+    EXPECT(given == f->index);
+    EXPECT(same());
+}
+
+/* Puts the four low bytes of a number, lowest first. */
+static void put_length(uint8_t *at, size_t length)
+{
+    size_t i;
+    for (i = 0; i < 4; i++)
+        at[i] = (uint8_t)(length >> 8 * i & 255);
+}
+
+/* Lends the sample with another column in its first page, x or y, and gives the file's length. */
+static size_t lend_with(const struct faulty *f, enum boundary_column column)
+{
+    const size_t x = column == BOUNDARY_COLUMN_X ? f->len : X_BYTES, y = column == BOUNDARY_COLUMN_Y ? f->len : X_BYTES;
+    uint8_t *at = now.file + X_COLUMN;
+    fresh();
+    memcpy(now.file, sample, X_COLUMN);
+    put_length(now.file + FIRST_PAGE, X_COLUMN - FIRST_PAGE - 6 + x + y);
+    put_length(now.file + COLUMN_LENGTHS, x);
+    put_length(now.file + COLUMN_LENGTHS + 4, y);
+    memcpy(at, column == BOUNDARY_COLUMN_X ? f->bytes : sample + X_COLUMN, x);
+    memcpy(at + x, column == BOUNDARY_COLUMN_Y ? f->bytes : sample + X_COLUMN + X_BYTES, y);
+    memcpy(at + x + y, sample + SECOND_PAGE, SAMPLE - SECOND_PAGE);
+    kept = now;
+    return X_COLUMN + x + y + SAMPLE - SECOND_PAGE;
+}
+
+/* The four calls that open the page of a place refuse the file that is lent, and change nothing. */
+static void all_tell(size_t len, uint64_t place, enum boundary_refusal number, uint32_t page, enum boundary_column column, uint32_t index)
+{
+    ask(0, 0, 0, 0, 0);
+    EXPECT(tells(boundary_check(now.file, len), number, page, column, index));
+    EXPECT(tells(boundary_count(query, query_len, now.file, len), number, page, column, index));
+    EXPECT(tells(boundary_search(query, query_len, now.file, len, now.places, 8), number, page, column, index));
+    EXPECT(tells(boundary_fetch(now.file, len, place, now.about, 6, now.lens, 8, now.xs, 8, now.ys, 8), number, page, column, index));
+    EXPECT(same());
+}
+
+/* Each fault of a column: alone, and as the x and the y column of a page. */
+static void telling_where(void)
+{
+    size_t i;
+    make_columns();
+    for (i = 0; i < FAULTS; i++) {
+        const struct faulty *f = &faults[i];
+        alone(f);
+        all_tell(lend_with(f, BOUNDARY_COLUMN_X), 0, f->number, 0, BOUNDARY_COLUMN_X, f->index);
+        all_tell(lend_with(f, BOUNDARY_COLUMN_Y), 1, f->number, 0, BOUNDARY_COLUMN_Y, f->index);
+    }
+}
+
+/* The sample with one byte changed. */
+static void lend_changed(size_t at, unsigned byte)
+{
+    fresh();
+    memcpy(now.file, sample, SAMPLE);
+    now.file[at] = (uint8_t)byte;
+    kept = now;
+}
+
+/* The second page, whose two columns are of two values and have a fill bit each; the x column comes first, and what is no column's has none. */
+static void telling_the_page(void)
+{
+    lend_changed(SECOND_X, 65);
+    all_tell(SAMPLE, 2, BOUNDARY_REFUSED_WIDTH, 1, BOUNDARY_COLUMN_X, 0);
+    now.file[SECOND_Y] = 65;
+    kept = now;
+    all_tell(SAMPLE, 2, BOUNDARY_REFUSED_WIDTH, 1, BOUNDARY_COLUMN_X, 0);
+    lend_changed(SECOND_Y, 65);
+    all_tell(SAMPLE, 3, BOUNDARY_REFUSED_WIDTH, 1, BOUNDARY_COLUMN_Y, 0);
+    lend_changed(SECOND_Y - 1, sample[SECOND_Y - 1] | 0x80u);
+    all_tell(SAMPLE, 2, BOUNDARY_REFUSED_FILL, 1, BOUNDARY_COLUMN_X, 2);
+    lend_changed(SECOND_Y + 15, sample[SECOND_Y + 15] | 0x80u);
+    all_tell(SAMPLE, 2, BOUNDARY_REFUSED_FILL, 1, BOUNDARY_COLUMN_Y, 2);
+    lend_changed(SECOND_TYPES, 7);
+    all_tell(SAMPLE, 2, BOUNDARY_REFUSED_PARTS, 1, BOUNDARY_COLUMN_NONE, 0);
+    now.file[SECOND_X] = 65;
+    kept = now;
+    all_tell(SAMPLE, 2, BOUNDARY_REFUSED_PARTS, 1, BOUNDARY_COLUMN_NONE, 0);
+}
+
+/* A step from a position that no call handed back is refused at that value. */
+static void step_tells(const uint8_t *column, uint64_t place, uint64_t given, uint64_t width, enum boundary_refusal number, uint32_t index)
+{
+    fresh();
+    now.position[0] = place;
+    now.position[1] = given;
+    now.position[2] = width;
+    kept = now;
+    REFUSED_AT(boundary_column_step(column, STEPS_BYTES, X_VALUES, now.position, 4), number, index);
+}
+
+static void telling_of_made_up_positions(void)
+{
+    step_tells(steps, 72, 3, 65, BOUNDARY_REFUSED_WIDTH, 0);
+    step_tells(steps, 89, 3, UINT64_MAX, BOUNDARY_REFUSED_WIDTH, 0);
+    /* a place past the bytes: the lesser of what was given and what there is */
+    step_tells(steps, 89, 2, 3, BOUNDARY_REFUSED_BITS, 2);
+    step_tells(steps, 89, 6, 3, BOUNDARY_REFUSED_BITS, X_VALUES);
+    step_tells(steps, 89, 9, 3, BOUNDARY_REFUSED_BITS, X_VALUES);
+    step_tells(steps, UINT64_MAX, UINT64_MAX, 64, BOUNDARY_REFUSED_BITS, X_VALUES);
+    /* bits lacking for an entry, and behind a marker */
+    step_tells(steps, 86, 4, 3, BOUNDARY_REFUSED_BITS, 4);
+    step_tells(steps, 88, 1, 1, BOUNDARY_REFUSED_BITS, 1);
+    step_tells(steps, 80, 5, 0, BOUNDARY_REFUSED_BITS, 5);
+    /* bytes left over, and the fill bit */
+    step_tells(steps, 80, 6, 3, BOUNDARY_REFUSED_BITS, X_VALUES);
+    step_tells(steps, 72, UINT64_C(1) << 32, 3, BOUNDARY_REFUSED_BITS, X_VALUES);
+    step_tells(filled_steps, 87, 6, 3, BOUNDARY_REFUSED_FILL, X_VALUES);
+    step_tells(filled_steps, 87, 5000, 3, BOUNDARY_REFUSED_FILL, X_VALUES);
+}
+
+/* The greatest index there is, of 2,048 equal values at width 1: each entry is one bit, and the last stands at bit 2,118 of 2,120. */
+static void telling_the_greatest(void)
+{
+    static uint8_t column[266];
+    static uint64_t room[BOUNDARY_MOST_VALUES];
+    column[0] = 1;
+    EXPECT(boundary_column_read(column, 265, BOUNDARY_MOST_VALUES, room, BOUNDARY_MOST_VALUES) == BOUNDARY_MOST_VALUES);
+    EXPECT(tells(boundary_column_read(column, 266, BOUNDARY_MOST_VALUES, room, BOUNDARY_MOST_VALUES), BOUNDARY_REFUSED_BITS, 0, BOUNDARY_COLUMN_NONE,
+                 BOUNDARY_MOST_VALUES));
+    EXPECT(tells(boundary_column_read(column, 264, BOUNDARY_MOST_VALUES, room, BOUNDARY_MOST_VALUES), BOUNDARY_REFUSED_BITS, 0, BOUNDARY_COLUMN_NONE, 2041));
+    column[264] = 0x80;
+    EXPECT(tells(boundary_column_read(column, 265, BOUNDARY_MOST_VALUES, room, BOUNDARY_MOST_VALUES), BOUNDARY_REFUSED_FILL, 0, BOUNDARY_COLUMN_NONE,
+                 BOUNDARY_MOST_VALUES));
+}
+
 /* Reads the bytes that the sample file should have. */
 static int read_sample(const char *path)
 {
@@ -440,6 +668,7 @@ int main(int argc, char **argv)
         printf("usage: calls SAMPLE, a file of %d bytes\n", SAMPLE);
         return 1;
     }
+    taking_apart();
     writer_states();
     pages_refused();
     checking();
@@ -449,6 +678,10 @@ int main(int argc, char **argv)
     columns_refused();
     reading_in_place();
     fetching();
+    telling_where();
+    telling_the_page();
+    telling_of_made_up_positions();
+    telling_the_greatest();
     printf("%u checks, %u failed\n", checks, failed);
     return failed == 0 && checks > 0 ? 0 : 1;
 }
