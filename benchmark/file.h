@@ -1,7 +1,8 @@
 /* The boundary file's calls, as each version offers them: ours (`boundary_`, from an object of its own) and plain.
  *
  * An answer has in its low 32 bits the number of shapes or of hits, or the page of a refusal, and in bits 32 to 39 the refusal's number, 0
- * where there is none. A slice is a pointer and a length in bytes.
+ * where there is none. Ours has above them the column and the index of a refusal, which the plain version does not find. A slice is a
+ * pointer and a length in bytes.
  */
 #ifndef FILE_H
 #define FILE_H
@@ -28,8 +29,10 @@ enum {
 
 /* An answer of a refusal's number and a page, or of 0 and a count. */
 #define ANSWER(number, count) (REFUSED(number) | (uint64_t)(count))
-#define NUMBER_OF(answer) ((unsigned)((answer) >> 32))
+#define NUMBER_OF(answer) ((unsigned)((answer) >> 32 & 255))
 #define COUNT_OF(answer) ((uint32_t)(answer))
+/* Both of an answer, without the column and the index. */
+#define BOTH_OF(answer) ANSWER(NUMBER_OF(answer), COUNT_OF(answer))
 
 typedef uint64_t check_call(const uint8_t *file, size_t len);
 typedef uint64_t count_call(const uint8_t *query, size_t query_len, const uint8_t *file, size_t len);
