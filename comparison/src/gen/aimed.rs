@@ -59,10 +59,11 @@ fn filled(rng: &mut Rng, values: &[u64]) -> Vec<u8> {
 pub fn column(rng: &mut Rng, values: &[u64], site: Site) -> Vec<u8> {
     let mut column = second::column::bytes_of(values);
     match site {
-        Site::WidthOver => match column.first_mut() {
-            Some(first) => *first = rng.pick(&[65, 66, 128, 255]),
-            None => {}
-        },
+        Site::WidthOver => {
+            if let Some(first) = column.first_mut() {
+                *first = rng.pick(&[65, 66, 128, 255]);
+            }
+        }
         Site::NoWidth => column.clear(),
         Site::FirstCut => column.truncate(1 + rng.below(8)),
         Site::EntryCut => return cut(rng, values, false),
