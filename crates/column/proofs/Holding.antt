@@ -11,7 +11,7 @@ use borrow.Author.Tests.{le-leb, lt-leb, leb-true, leb-false}
 use Rattle.le.specs.Number.{number}
 use Rattle.entry.specs.Entry.{sizeAt, after}
 use Rattle.entry.proofs.Reading.{after-le}
-use Rattle.column.specs.Read.{endOf, entriesWithin, heldOf}
+use Rattle.column.specs.Read.{entriesWithin, heldOf}
 
 -- ---- entries from a place on, in so many bits
 

@@ -1,25 +1,24 @@
 -- "With the column, x or y": which column a refused page names. It is x exactly when the tables have passed and the x column is refused, and y exactly when
 -- the x column is read besides and the y column is refused; the index is that column's own. Nothing is assumed.
 use Prim.Native.Nat.{ℕ, _≤_}
-use mathlib.Core.Path.{_≡_, refl, sym, ap, _∙_, subst}
+use mathlib.Core.Path.{_≡_, refl, ap, _∙_}
 use mathlib.Core.List.{List}
 use native.Mathlib.Omega.{arith}
 use Rattle.answer.specs.Axis as Axis
 use Rattle.answer.specs.declared.Refusal.{Refusal}
 use Rattle.answer.specs.Refusal.{onColumn}
-use Rattle.answer.specs.Outcome.{Out, refused, ok}
-use Rattle.answer.proofs.Outcomes.{marked-refused, marked-value, marked-ok, refused-inj}
+use Rattle.answer.specs.Outcome.{refused, ok}
+use Rattle.answer.proofs.Outcomes.{marked-refused, marked-value, marked-ok}
 use Rattle.answer.proofs.Orders.{on-refused, on-value}
-use Rattle.column.specs.Read.{decodeOf, readOf}
+use Rattle.column.specs.Read.{decodeOf}
 use Rattle.types.specs.Parts.{partsRule}
 use Rattle.shape.specs.Rules.{boxRule}
 use Rattle.frame.specs.declared.head.Head.{Head}
 use Rattle.page.specs.Contents.{typesOf, countsOf, lensOf, xPart, yPart, columnOf, verticesOf, contentsOf}
 use Rattle.search.specs.Listed.{listed}
 use Rattle.promises.specs.Refusing.{Refuses}
-use Rattle.promises.specs.Numbers as numbers
-use Rattle.promises.specs.Values.{Indexed, InColumns, neither, in-x, in-y}
-use Rattle.promises.proofs.Refusals.{ok-gives, refused-gives, after-gives, on-gives, marked-gives, rule-gives, so-gives}
+use Rattle.promises.specs.Values.{InColumns, neither, in-x, in-y}
+use Rattle.promises.proofs.Refusals.{ok-gives, after-gives, on-gives, marked-gives, rule-gives, so-gives}
 use Rattle.promises.proofs.Numbers.{decode-no-column, outlines-give}
 use Rattle.promises.proofs.Values.{decode-indexed, indexed-most}
 

@@ -2,7 +2,7 @@
 -- each refusal's number, page, column and index fit the bits that a word of the C face has for them. Nothing is assumed.
 use Prim.Native.Nat.{ℕ, zero, suc, _≤_, _<_}
 use mathlib.Core.Path.{_≡_, refl, sym, ap, _∙_, subst}
-use mathlib.Core.Bool.{Bool, true, false, not, _&&_, _||_, cond}
+use mathlib.Core.Bool.{Bool, true, false, not, _&&_, _||_}
 use mathlib.Core.List.{List, [], _∷_}
 use native.Mathlib.Omega.{arith}
 use borrow.Author.Tests.{eq-eqb, eqb-true, ltb-true}
@@ -11,7 +11,7 @@ use lib.ListN.{length, drop}
 use lib.Seq.{drop-nil}
 use Rattle.answer.specs.Axis as Axis
 use Rattle.answer.specs.declared.Refusal.{Refusal}
-use Rattle.answer.specs.Refusal.{onColumn, onPage}
+use Rattle.answer.specs.Refusal.{onPage}
 use Rattle.answer.specs.All.{allOf}
 use Rattle.answer.specs.Outcome.{Out, refused, ok}
 use Rattle.answer.proofs.Both.{no-both, both, both-l, both-r}
@@ -34,7 +34,7 @@ use Rattle.promises.specs.Refusing.{Refuses}
 use Rattle.promises.specs.Numbers as numbers
 use Rattle.promises.specs.Numbers.{tidy, by}
 use Rattle.promises.specs.Values.{InColumns, neither, in-x, in-y, named}
-use Rattle.promises.specs.Pages.{IsPage, InFrame, first, behind, InContents, everyPage, metPages, PlacePage, noPages, Paged, HasPage, frame-refusal, contents-refusal, other-refusal}
+use Rattle.promises.specs.Pages.{IsPage, InFrame, first, behind, everyPage, metPages, PlacePage, noPages, Paged, HasPage, frame-refusal, contents-refusal, other-refusal}
 use Rattle.promises.proofs.Refusals.{so-gives}
 use Rattle.promises.proofs.Numbers.{by-listed, by-tidy, plain-listed, decode-gives}
 use Rattle.promises.proofs.PassedBlocks.{passed-within, passed-counts}

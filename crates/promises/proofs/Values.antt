@@ -1,8 +1,8 @@
 -- "The index of the value it was working on when it refused": what the index of a refused column read says of the column's bytes, for any input, and that
 -- it is at most N; the same bound for one value a call, at any position. Nothing is assumed.
 use Prim.Native.Nat.{ℕ, zero, suc, _+_, _-_, _*_, _^_, _≤_, _<_}
-use mathlib.Core.Path.{_≡_, refl, sym, ap, _∙_, subst}
-use mathlib.Core.Bool.{Bool, true, false, cond}
+use mathlib.Core.Path.{_≡_, refl, ap, subst}
+use mathlib.Core.Bool.{Bool, true, false}
 use mathlib.Core.List.{List, []}
 use mathlib.Core.Logic.{_⊎_, inl, inr, ⊎-elim}
 use native.Mathlib.Decide.{decLt}
@@ -15,12 +15,12 @@ use Rattle.answer.specs.declared.Refusal.{Refusal}
 use Rattle.answer.specs.Refusal.{because, atValue}
 use Rattle.answer.specs.Outcome.{Out, ok}
 use Rattle.le.specs.Number.{number}
-use Rattle.entry.specs.Entry.{sizeAt, after}
+use Rattle.entry.specs.Entry.{after}
 use Rattle.column.specs.Column.{whole}
-use Rattle.column.specs.Read.{saidBy, endOf, entriesWithin, heldOf, endRules, someOf, decodeOf, readOf}
+use Rattle.column.specs.Read.{endOf, entriesWithin, heldOf, endRules, someOf, decodeOf, readOf}
 use Rattle.column.specs.declared.Position.{Position}
 use Rattle.column.proofs.Holding.{within-is, held-none, held-some}
-use Rattle.step.specs.Step.{end, value, position, coming, firstCall, laterCall, stepOf}
+use Rattle.step.specs.Step.{end, coming, firstCall, laterCall, stepOf}
 use Rattle.step.proofs.Calls.{coming-next, coming-none}
 use Rattle.search.specs.Listed.{listed}
 use Rattle.promises.specs.Refusing.{Refuses}

@@ -1,7 +1,7 @@
 -- Where in a page a refusal is. "Column reading shall also give the index of the value it was working on when it refused: 0 for 8, N for bytes left over or
 -- fill bits, otherwise the value that lacked bits. Page contents, full check, search and fetch pass it on with the column, x or y; other refusals give
 -- index 0 and no column." Said by the places where values end, with no walk. Assumes nothing.
-use Prim.Native.Nat.{ℕ, zero, suc, _+_, _*_, _^_, _≤_, _<_}
+use Prim.Native.Nat.{ℕ, zero, suc, _*_, _^_, _≤_, _<_}
 use mathlib.Core.Path.{_≡_}
 use mathlib.Core.Bool.{Bool, true, _&&_, _||_, cond}
 use mathlib.Core.List.{List, [], _∷_}

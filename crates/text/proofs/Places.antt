@@ -1,16 +1,15 @@
 -- Shown here: the pieces that say where in a page, by the column that is named, and the most that they and the refused line take. Nothing is assumed.
-use Prim.Native.Nat.{ℕ, _+_, _≤_}
-use mathlib.Core.Path.{_≡_, refl, sym, ap, ap₂, _∙_, subst}
+use Prim.Native.Nat.{ℕ, _≤_}
+use mathlib.Core.Path.{_≡_, refl}
 use mathlib.Core.Bool.{Bool, true, false, cond}
-use mathlib.Core.List.{List, [], _∷_, _++_}
+use mathlib.Core.List.{List, [], _∷_}
 use native.Mathlib.Omega.{arith}
 use lib.Dec.{eqb}
 use lib.ListN.{length}
-use lib.Seq.{sets}
 use borrow.Author.Tests.{eq-eqb, ne-eqb}
 use Rattle.answer.specs.Axis as Axis
 use Rattle.answer.specs.declared.Refusal.{Refusal}
-use Rattle.text.specs.Pieces.{Piece, words, number, codes, textOf, most, Puts}
+use Rattle.text.specs.Pieces.{words, number, codes, textOf, most, Puts}
 use Rattle.text.specs.Lines.{columnWords, whereWords, refusedLine}
 use Rattle.text.proofs.Pieces.{most-append}
 

@@ -1,5 +1,4 @@
 -- `text::lines::put_column` puts the words for the x column, or for the y column. Nothing is assumed.
-use mathlib.Core.Path.{ap}
 use Rattle.text.specs.Pieces.{codes}
 use Rattle.text.proofs.Places.{column-x, column-y}
 use borrow.Author.Needs.{needs}
