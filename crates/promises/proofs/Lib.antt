@@ -14,6 +14,7 @@ pub mod CallNumbers
 pub mod Values
 pub mod InPages
 pub mod Named
+pub mod CallFits
 pub mod Fetched
 pub mod FirstDemand
 pub mod SecondDemand

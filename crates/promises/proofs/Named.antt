@@ -27,7 +27,7 @@ use Rattle.page.specs.Contents.{xPart, yPart}
 use Rattle.file.specs.Check.{checkOf}
 use Rattle.search.specs.Search.{searchOf, countOf}
 use Rattle.search.specs.Listed.{listed}
-use Rattle.fetch.specs.Fetch.{Rooms, fetchOf}
+use Rattle.fetch.specs.Fetch.{shapeIn, Rooms, fetchOf}
 use Rattle.place.specs.Rows.{rowsOf}
 use Rattle.viewer.proofs.Fitting.{Fits}
 use Rattle.promises.specs.Refusing.{Refuses}
@@ -39,11 +39,11 @@ use Rattle.promises.proofs.Refusals.{so-gives}
 use Rattle.promises.proofs.Numbers.{by-listed, by-tidy, plain-listed, decode-gives}
 use Rattle.promises.proofs.PassedBlocks.{passed-within, passed-counts}
 use Rattle.promises.proofs.InPages.{contents-columns, columns-most}
-use Rattle.promises.proofs.Pages.{check-page, count-page, search-page, fetch-page, rows-page}
+use Rattle.promises.proofs.Pages.{check-page, count-page, search-page, place-page, fetch-page, rows-page}
 
 -- ---- what is so of each of a list of numbers
 
-each-one : (test : ℕ → Bool) (ns : List ℕ) → allOf test ns ≡ true → (n : ℕ) → listed n ns ≡ true → test n ≡ true
+pub each-one : (test : ℕ → Bool) (ns : List ℕ) → allOf test ns ≡ true → (n : ℕ) → listed n ns ≡ true → test n ≡ true
 unfolding listed allOf
 each-one test [] h n e = absurd (no-both refl e)
 each-one test (m ∷ ns) h n e = go (eqb n m) refl e (both-l (test m) (allOf test ns) h) (λ k. each-one test ns (both-r (test m) (allOf test ns) h) n k)
@@ -100,7 +100,7 @@ told-none w o h =
     record { names = no-column w (other-false (w .number) o) h; number = other-small (w .number) o; column = omega (arith, c); index = omega (arith, i) }
 
 -- by one of such numbers
-told-by : (ns : List ℕ) → others ns ≡ true → (w : Refusal) → by ns w → Told w
+pub told-by : (ns : List ℕ) → others ns ≡ true → (w : Refusal) → by ns w → Told w
 told-by ns h w k =
     let o = each-one other ns h (w .number) (by-listed ns w k) in
     told-none w o (tidy-none w (other-false (w .number) o) (by-tidy ns w k))
@@ -182,6 +182,10 @@ module _ (s : List ℕ) (y : Bytes s) where
   pub search-named : (a : Ask) (room : ℕ) → Refuses (λ w. (named w ≡ true) × Fits w) (searchOf a s room)
   unfolding listed allOf
   search-named a room = named-all s y (metPages a) (1 ∷ 2 ∷ []) refl (searchOf a s room) (search-page a s room)
+
+  pub shape-named : (n : ℕ) → Refuses (λ w. (named w ≡ true) × Fits w) (shapeIn s n)
+  unfolding listed allOf
+  shape-named n = named-all s y (PlacePage n) (17 ∷ 2 ∷ []) refl (shapeIn s n) (place-page s n)
 
   pub fetch-named : (n : ℕ) (r : Rooms) → Refuses (λ w. (named w ≡ true) × Fits w) (fetchOf s n r)
   unfolding listed allOf

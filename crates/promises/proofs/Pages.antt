@@ -131,10 +131,14 @@ module _ (s : List ℕ) (n : ℕ) where
       (here-refused (PlacePage n ps) ps (t .page) (t .held) (k .0 .rest) (k .0 .there) (k .1) (none-before ps n (t .page) (t .held) (k .1))))
       (λ here. others-paged s (PlacePage n) (17 ∷ 2 ∷ []) numbers.noShape _ refl (gives.nth-gives (t .index) here))
 
+-- whatever the rooms
+pub place-page : (s : List ℕ) (n : ℕ) → HasPage s (PlacePage n) (17 ∷ 2 ∷ []) (shapeIn s n)
+unfolding shapeIn
+place-page s n = after-gives _ _ _ (seat-page s n) (shape-page s n)
+
 pub fetch-page : (s : List ℕ) (n : ℕ) (r : Rooms) → HasPage s (PlacePage n) (17 ∷ 2 ∷ []) (fetchOf s n r)
-unfolding fetchOf shapeIn inRooms listed
-fetch-page s n r =
-    on-gives _ _ _ (after-gives _ _ _ (seat-page s n) (shape-page s n)) (λ sh. need-gives _ _ _ _ (other-refusal refl refl) (ok-gives _ _))
+unfolding fetchOf inRooms listed
+fetch-page s n r = on-gives _ _ _ (place-page s n) (λ sh. need-gives _ _ _ _ (other-refusal refl refl) (ok-gives _ _))
 
 -- the rows open none; their others are 17 and 2
 pub rows-page : (s places : List ℕ) (registers types : ℕ) → HasPage s noPages (17 ∷ 2 ∷ []) (rowsOf s places registers types)
