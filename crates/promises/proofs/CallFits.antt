@@ -2,7 +2,7 @@
 -- them back (viewer/Fitting: `refused-apart`). A call that reads one column names none. Nothing is assumed.
 use Prim.Native.Nat.{ℕ, _≤_, _<_}
 use mathlib.Core.Path.{_≡_, refl, sym, ap, _∙_}
-use mathlib.Core.Bool.{Bool, true}
+use mathlib.Core.Bool.{true}
 use mathlib.Core.List.{List, [], _∷_}
 use native.Mathlib.Decide.{decLe}
 use native.Mathlib.Omega.{arith}
@@ -36,9 +36,10 @@ use Rattle.promises.specs.Refusing.{Refuses}
 use Rattle.promises.specs.Numbers as numbers
 use Rattle.promises.specs.Numbers.{Plain}
 use Rattle.promises.proofs.Refusals.{ok-gives, need-gives, on-gives, cond-gives, rule-gives, so-gives}
-use Rattle.promises.proofs.Numbers.{by-listed, plain-gives, plain-no-page, decode-no-column, write-gives, read-gives, step-gives, ask-gives}
+use Rattle.promises.proofs.Numbers.{by-listed, plain-gives, plain-no-page, write-gives, read-gives, step-gives, ask-gives}
 use Rattle.promises.proofs.CallNumbers.{open-call-gives, page-call-gives, close-call-gives}
 use Rattle.promises.proofs.Values.{read-index-most, step-index-most}
+use Rattle.promises.proofs.InPages.{decode-no-column}
 use Rattle.promises.proofs.Named.{each-one, others, told-by, check-named, count-named, search-named, shape-named}
 
 -- a refusal that knows no page

@@ -4,13 +4,14 @@ use Prim.Native.Nat.{ℕ, _≤_}
 use mathlib.Core.Path.{_≡_, refl, ap, _∙_}
 use mathlib.Core.List.{List}
 use native.Mathlib.Omega.{arith}
+use lib.Dec.{eqb}
 use Rattle.answer.specs.Axis as Axis
 use Rattle.answer.specs.declared.Refusal.{Refusal}
 use Rattle.answer.specs.Refusal.{onColumn}
 use Rattle.answer.specs.Outcome.{refused, ok}
 use Rattle.answer.proofs.Outcomes.{marked-refused, marked-value, marked-ok}
 use Rattle.answer.proofs.Orders.{on-refused, on-value}
-use Rattle.column.specs.Read.{decodeOf}
+use Rattle.column.specs.Read.{endRules, someOf, decodeOf}
 use Rattle.types.specs.Parts.{partsRule}
 use Rattle.shape.specs.Rules.{boxRule}
 use Rattle.frame.specs.declared.head.Head.{Head}
@@ -18,9 +19,16 @@ use Rattle.page.specs.Contents.{typesOf, countsOf, lensOf, xPart, yPart, column
 use Rattle.search.specs.Listed.{listed}
 use Rattle.promises.specs.Refusing.{Refuses}
 use Rattle.promises.specs.Values.{InColumns, neither, in-x, in-y}
-use Rattle.promises.proofs.Refusals.{ok-gives, after-gives, on-gives, marked-gives, rule-gives, so-gives}
-use Rattle.promises.proofs.Numbers.{decode-no-column, outlines-give}
+use Rattle.promises.proofs.Refusals.{ok-gives, need-gives, after-gives, on-gives, marked-gives, cond-gives, rule-gives, so-gives}
+use Rattle.promises.proofs.Numbers.{outlines-give}
 use Rattle.promises.proofs.Values.{decode-indexed, indexed-most}
+
+-- a column that is read alone names none
+pub decode-no-column : (P : ℕ) (s : List ℕ) (n : ℕ) → Refuses (λ w. w .column ≡ Axis.none) (decodeOf P s n)
+unfolding decodeOf someOf endRules
+decode-no-column P s n =
+    cond-gives _ (eqb n 0) _ _ (need-gives _ _ _ _ refl (need-gives _ _ _ _ refl (ok-gives _ _)))
+    (need-gives _ _ _ _ refl (need-gives _ _ _ _ refl (need-gives _ _ _ _ refl (need-gives _ _ _ _ refl (need-gives _ _ _ _ refl (ok-gives _ _))))))
 
 module _ (h : Head) (b : List ℕ) where
   -- a refusal of one column is the same, but for the column that it then names

@@ -140,13 +140,6 @@ pub decode-gives : (P : ℕ) (s : List ℕ) (n : ℕ) → Plain numbers.columnBi
 unfolding decodeOf listed
 decode-gives P s n = cond-gives _ (eqb n 0) (endRules s 0 0 (ok [])) (someOf P s n) (ending-gives _ _ _ _ _ refl refl (ok-gives _ _)) (some-gives P s n)
 
--- which names no column of a page
-pub decode-no-column : (P : ℕ) (s : List ℕ) (n : ℕ) → Refuses (λ w. w .column ≡ Axis.none) (decodeOf P s n)
-unfolding decodeOf someOf endRules
-decode-no-column P s n =
-    cond-gives _ (eqb n 0) _ _ (need-gives _ _ _ _ refl (need-gives _ _ _ _ refl (ok-gives _ _)))
-    (need-gives _ _ _ _ refl (need-gives _ _ _ _ refl (need-gives _ _ _ _ refl (need-gives _ _ _ _ refl (need-gives _ _ _ _ refl (ok-gives _ _))))))
-
 pub read-gives : (P : ℕ) (s : List ℕ) (n size : ℕ) → Plain numbers.columnRead (readOf P s n size)
 unfolding readOf listed allOf
 read-gives P s n size = need-gives _ _ _ _ refl (need-gives _ _ _ _ refl (plainer numbers.columnBits numbers.columnRead refl _ (decode-gives P s n)))
