@@ -1,4 +1,6 @@
 // What every service answers. A refusal is one value, a number of the table and where it was met, and is passed on whole; what it names is set here alone.
+#![tactic(auto)]
+
 ghost use Rattle.std.specs.Prelude.{◌≡◌, ◌≤◌};
 ghost use Rattle.answer.specs.Limits.{vertex_limit};
 ghost use Rattle.answer.specs.Refusal.{because, at_value, on_column, on_page};
