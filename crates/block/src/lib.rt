@@ -1,4 +1,5 @@
 // Blocks, by their heads. All numbers little-endian. Each block: length of the body (u32), kind (u16), body.
+#![tactic(auto)]
 ghost use Rattle.std.specs.Prelude.{◌≡◌, true, ◌+◌, ◌≤◌, length};
 ghost use Rattle.std.proofs.lemmas.List.Edits.{sets};
 ghost use Rattle.answer.specs.Table.{lengths};

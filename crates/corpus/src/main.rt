@@ -7,6 +7,7 @@
 // index, in decimal, and then each room after the call, in hexadecimal, or `-` where it has no element. A record that is not just so, or over a limit,
 // ends the run with the line `malformed`. The limits, in elements: a position, a writer's state or about 8; registers, types, counts or places 300;
 // lens, xs, ys, values or a room for values 2,100; the bytes of a column or a buffer 20,000; a record 65,000.
+#![tactic(auto)]
 mod columns;
 mod copies;
 mod fetched;

@@ -1,4 +1,5 @@
 // One entry of a column: the step from one value to the next, or the value in full.
+#![tactic(auto)]
 ghost use Rattle.std.specs.Prelude.{◌≡◌, ◌+◌, ◌*◌, ◌/◌, ◌%◌, ◌^◌, ◌<◌, ◌≤◌, length};
 ghost use Rattle.le.specs.Number.{number};
 ghost use Rattle.entry.specs.Step.{z_of, unzigzag, marker};

@@ -1,3 +1,4 @@
 // The shape at a place of a file.
+#![tactic(auto)]
 pub mod fetch;
 mod opened;

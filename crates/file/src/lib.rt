@@ -1,2 +1,3 @@
 // A file: the full check.
+#![tactic(auto)]
 pub mod check;

@@ -1,5 +1,6 @@
 // The column reader as a thing that holds the column's bytes and gives one value a call. It only holds: each answer is that of the step on the
 // bytes, `step::step`. The struct is Copy; the position is handed back with each answer, and `moved` takes a reader there.
+#![tactic(auto)]
 ghost use Rattle.std.specs.Prelude.{◌≡◌};
 ghost use Rattle.step.specs.Step.{step_of, answer_with};
 ghost use Rattle.reader.specs.Reader.{new_reader, moved_to, reader_answer};

@@ -1,4 +1,5 @@
 // The column read one value a call. The position goes in by value and comes back with each answer; only a value moves it.
+#![tactic(auto)]
 ghost use Rattle.std.specs.Prelude.{◌≡◌, ◌+◌, ◌/◌, ◌^◌, ◌≤◌, leb};
 ghost use Rattle.answer.specs.Limits.{vertex_limit};
 ghost use Rattle.answer.specs.Refusal.{because, at_value};

@@ -1,4 +1,5 @@
 // The width of a column: the one of least size, found by trying each.
+#![tactic(auto)]
 ghost use Rattle.std.specs.Prelude.{◌≡◌, cond, ◌≤◌, length, leb};
 ghost use Rattle.answer.specs.Limits.{vertex_limit};
 ghost use Rattle.width.specs.Width.{zs_of, fulls, column_size, width_of};

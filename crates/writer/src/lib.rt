@@ -1,4 +1,5 @@
 // The file writer. Its state goes in by value and is handed back; a refused step hands it back as it came, and leaves the buffer as it was.
+#![tactic(auto)]
 ghost use Rattle.std.specs.Prelude.{◌≡◌, length};
 ghost use Rattle.answer.specs.Lent.{came};
 ghost use Rattle.answer.specs.Refusal.{because};

@@ -1,0 +1,18 @@
+-- `field_within` gives the field of w bits at a bit place, from nine bytes that are there, by the marker. Assumes nothing.
+use mathlib.Core.Path.{ap₂, ◌∙◌}
+use Prim.Native.Nat.{◌/◌, ◌%◌, ◌^◌}
+use lib.Bits.{bit_and, and_mask}
+use Rattle.le.specs.Number.{number}
+use Rattle.le.proofs.Fields.{mod-le-pow, near-field}
+use Rattle.le.proofs.Numbers.{number-at}
+use Rattle.le.proofs.bits.field_within.Goals as goal
+
+pub returns-then-w-le56 : goal.returns-then-w-le56
+returns-then-w-le56 c =
+    let st = c in
+    near-field (number st.args.s.now) st.args.at st.args.w st.args.m c.u64_at.result c.if-w-le56.true st.requires.1 (c.u64_at.ensures ∙ number-at 8 _ _ (λ i. (c.shared_slice_known-1.given i).fits))
+
+pub returns : goal.returns
+returns c =
+    let st = c in
+    ap₂ bit_and c.window_within.ensures st.requires.1 ∙ and_mask (number st.args.s.now / 2 ^ st.args.at % 2 ^ 64) st.args.w ∙ mod-le-pow _ st.args.w 64 st.requires.0

@@ -1,0 +1,17 @@
+-- `put_u16` stores the two low bytes of x, one after another. Assumes nothing.
+use native.Mathlib.Omega.{arith}
+use lib.ListN.{length-set}
+use Rattle.le.proofs.Stores.{store-first, store-more}
+use Rattle.le.proofs.number.put_u16.Goals as goal
+
+pub bounds-d-at-2 : goal.bounds-d-at-2
+bounds-d-at-2 c = simp length-set (omega arith)
+
+pub returns : goal.returns
+returns c =
+    let st = c in
+    let d = st.args.d.now in
+    let at = st.args.at in
+    let x = st.args.x in
+    let h1 = store-first d at x _ c.low.ensures in
+    store-more 1 d _ at x _ c.low-2.ensures h1

@@ -1,0 +1,16 @@
+-- `le::run::read_u16s` fills the room with the run's numbers. The invariant: the first i are there, and the rest stays. Assumes nothing.
+use mathlib.Core.Path.{◌≡◌, refl, sym, ap, ◌∙◌}
+use mathlib.Core.List.{◌++◌}
+use Prim.Native.Nat.{◌-◌, ◌≤◌, ◌<◌}
+use native.Mathlib.Omega.{arith}
+use lib.ListN.{length, get_or, set, take, drop, length-set}
+use Rattle.le.specs.Number.{numbers_at}
+use Rattle.le.proofs.Copying.{copy_more}
+use Rattle.le.proofs.Runs.{length-numbers, numbers-at, run-whole}
+use Rattle.le.proofs.run.read_u16s.Given as goal
+
+abbrev pub invariant-loop-i : goal.invariant-loop-i
+invariant-loop-i l = (l.i ≤ l.n) × (length l.d ≡ l.n) × (l.d ≡ take l.i (numbers_at 2 l.n l.s l.at) ++ drop l.i l.initial.d)
+
+abbrev pub decreases-loop-i : goal.decreases-loop-i
+decreases-loop-i l = l.n - l.i
