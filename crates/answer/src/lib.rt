@@ -13,7 +13,7 @@ pub mod table;
 
 // Why a call was refused: a number of the table, the column of a page that it concerns (0 none, 1 x, 2 y), the index of a value in a column (0 where
 // it concerns none), and the page (0 likewise). So ordered it takes eight bytes.
-#[derive(Drop)]
+#[derive(Clone, Copy)]
 pub struct Refusal {
     pub number: u8,
     pub column: u8,
@@ -22,14 +22,14 @@ pub struct Refusal {
 }
 
 // The answer of a call that fills the start of a lent room: how many elements it put there, or the refusal, which leaves the room as it was.
-#[derive(Drop)]
+#[derive(Clone, Copy)]
 pub enum Filled {
     Start(usize),
     Refused(Refusal),
 }
 
 // The answer of a rule: it holds, or the refusal.
-#[derive(Drop)]
+#[derive(Clone, Copy)]
 pub enum Verdict {
     Holds,
     Refused(Refusal),

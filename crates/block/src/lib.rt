@@ -1,5 +1,6 @@
 // Blocks, by their heads. All numbers little-endian. Each block: length of the body (u32), kind (u16), body.
 #![tactic(auto)]
+
 ghost use Rattle.std.specs.Prelude.{◌≡◌, true, ◌+◌, ◌≤◌, length};
 ghost use Rattle.std.proofs.lemmas.List.Edits.{sets};
 ghost use Rattle.answer.specs.Table.{lengths};
@@ -17,7 +18,7 @@ pub mod kinds;
 pub const HEAD: usize = 6;
 
 // A block: its kind, the place of its body's first byte, and the body's length.
-#[derive(Drop)]
+#[derive(Clone, Copy)]
 pub struct Block {
     pub kind: usize,
     pub body: usize,
@@ -25,7 +26,7 @@ pub struct Block {
 }
 
 // The block that was found, all of it there, or the refusal.
-#[derive(Drop)]
+#[derive(Clone, Copy)]
 pub enum BlockRead {
     Found(Block),
     Refused(Refusal),

@@ -15,7 +15,7 @@ use answer::Filled;
 use answer::limits::MOST_VERTICES;
 
 // The width that a column takes, and its size in bytes.
-#[derive(Drop)]
+#[derive(Clone, Copy)]
 pub struct Fitted {
     pub width: u64,
     pub bytes: usize,

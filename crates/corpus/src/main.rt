@@ -8,6 +8,7 @@
 // ends the run with the line `malformed`. The limits, in elements: a position, a writer's state or about 8; registers, types, counts or places 300;
 // lens, xs, ys, values or a room for values 2,100; the bytes of a column or a buffer 20,000; a record 65,000.
 #![tactic(auto)]
+
 mod columns;
 mod copies;
 mod fetched;

@@ -8,7 +8,7 @@ use le::number::{u32_at, u64_at};
 const NOWHERE: usize = 18446744073709551615;
 
 // A slice in a record: the place of its first element, how many elements it has, and the place of the next argument.
-#[derive(Drop)]
+#[derive(Clone, Copy)]
 pub struct Span {
     pub from: usize,
     pub count: usize,
@@ -16,7 +16,7 @@ pub struct Span {
 }
 
 // A plain number, and the place of the next argument.
-#[derive(Drop)]
+#[derive(Clone, Copy)]
 pub struct Plain {
     pub value: u64,
     pub next: usize,

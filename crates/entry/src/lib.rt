@@ -1,5 +1,6 @@
 // One entry of a column: the step from one value to the next, or the value in full.
 #![tactic(auto)]
+
 ghost use Rattle.std.specs.Prelude.{◌≡◌, ◌+◌, ◌*◌, ◌/◌, ◌%◌, ◌^◌, ◌<◌, ◌≤◌, length};
 ghost use Rattle.le.specs.Number.{number};
 ghost use Rattle.entry.specs.Step.{z_of, unzigzag, marker};
@@ -44,7 +45,7 @@ pub fn stepped(a: u64, z: u64) -> u64
 }
 
 // What an entry gives: its value, and the place after it.
-#[derive(Drop)]
+#[derive(Clone, Copy)]
 pub struct Given {
     pub value: u64,
     pub next: usize,

@@ -8,7 +8,7 @@ use crate::value::good_axis;
 use le::number::u64_at;
 
 // Four patterns.
-#[derive(Drop)]
+#[derive(Clone, Copy)]
 pub struct Bounds {
     pub least_x: u64,
     pub least_y: u64,

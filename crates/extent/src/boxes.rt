@@ -10,7 +10,7 @@ use crate::span::{Span, span_of};
 use crate::value::{float_at_most, float_same};
 
 // A box is four floats.
-#[derive(Drop)]
+#[derive(Clone, Copy)]
 pub struct Box {
     pub least_x: f64,
     pub least_y: f64,
@@ -82,7 +82,7 @@ pub fn box_of(xs: &[u64], ys: &[u64]) -> Box
 }
 
 // A box that came as four patterns, of good form or bad; or that of vertices, where all are finite.
-#[derive(Drop)]
+#[derive(Clone, Copy)]
 pub enum Form {
     Good(Box),
     Bad,

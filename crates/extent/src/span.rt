@@ -4,7 +4,7 @@ ghost use Rattle.std.specs.Prelude.{◌≡◌, ◌<◌, length};
 ghost use Rattle.extent.specs.Span.{lower, higher, flipped, higher_flipped, by_sign, span_of, Spans, first_zero, first_as, is_zero};
 
 // The patterns of the least and of the greatest.
-#[derive(Drop)]
+#[derive(Clone, Copy)]
 pub struct Span {
     pub least: u64,
     pub greatest: u64,

@@ -8,7 +8,7 @@ use frame::walk::{Checked, frame};
 use place::seek::{Sought, seek};
 
 // A shape that was fetched: its register and type, and how many part lengths and vertices stand at the start of the rooms.
-#[derive(Drop)]
+#[derive(Clone, Copy)]
 pub struct Found {
     pub register: u32,
     pub kind: u8,
@@ -17,7 +17,7 @@ pub struct Found {
 }
 
 // The shape at a place, or the refusal, which leaves the rooms as they were.
-#[derive(Drop)]
+#[derive(Clone, Copy)]
 pub enum Fetched {
     Shape(Found),
     Refused(Refusal),

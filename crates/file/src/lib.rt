@@ -1,3 +1,4 @@
 // A file: the full check.
 #![tactic(auto)]
+
 pub mod check;

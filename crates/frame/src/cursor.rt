@@ -3,7 +3,7 @@ use crate::head::Head;
 use extent::boxes::Box;
 
 // Where the next block stands, with the file's edition and how many pages and shapes lie before it.
-#[derive(Drop)]
+#[derive(Clone, Copy)]
 pub struct Cursor {
     pub edition: usize,
     pub at: usize,
@@ -12,7 +12,7 @@ pub struct Cursor {
 }
 
 // A page that was found: its head, its body's place and length, and the cursor after it.
-#[derive(Drop)]
+#[derive(Clone, Copy)]
 pub struct PageAt {
     pub head: Head,
     pub body: usize,
@@ -21,7 +21,7 @@ pub struct PageAt {
 }
 
 // What a walk has to know of a page that it may pass by: its vertices, its box, and the cursor after it.
-#[derive(Drop)]
+#[derive(Clone, Copy)]
 pub struct Glance {
     pub v: usize,
     pub stored: Box,

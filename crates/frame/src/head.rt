@@ -18,7 +18,7 @@ use extent::boxes::{Box, box_with};
 use le::number::{u16_at, u32_at};
 
 // What stands before a page's shapes: how many shapes, vertices and parts, the box, the byte lengths of the two columns, and the layout.
-#[derive(Drop)]
+#[derive(Clone, Copy)]
 pub struct Head {
     pub g: usize,
     pub v: usize,

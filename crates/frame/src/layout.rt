@@ -23,7 +23,7 @@ pub const SECOND_SIZE: usize = 4;
 
 // The places of a page body's parts, from its first byte: the registers, the types, the part counts, the part lengths, the two byte lengths, and
 // the columns; and the bytes from one register to the next.
-#[derive(Drop)]
+#[derive(Clone, Copy)]
 pub struct Layout {
     pub registers: usize,
     pub each: usize,

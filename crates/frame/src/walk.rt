@@ -17,14 +17,14 @@ use block::{Block, BlockRead, block_at};
 use le::number::u16_at;
 
 // The cursor after the first block, or the refusal.
-#[derive(Drop)]
+#[derive(Clone, Copy)]
 pub(crate) enum FirstRead {
     After(Cursor),
     Refused(Refusal),
 }
 
 // How many pages and shapes a file has, and the cursor after its first block, from which its pages are walked again.
-#[derive(Drop)]
+#[derive(Clone, Copy)]
 pub struct Totals {
     pub pages: usize,
     pub shapes: usize,
@@ -32,7 +32,7 @@ pub struct Totals {
 }
 
 // The totals of a file that is sound, in its frame or, by the full check, in all; or the refusal.
-#[derive(Drop)]
+#[derive(Clone, Copy)]
 pub enum Checked {
     Sound(Totals),
     Refused(Refusal),

@@ -1,12 +1,13 @@
 // Standard input, read whole into a lent room: how many bytes it has, or that a read failed. Bytes that came before a read failed are no input: a file on a
 // stick that breaks is not a file that was cut short.
 #![tactic(auto)]
+
 ghost use Rattle.input.specs.Within.{Within};
 
 use libc::STDIN_FILENO;
 
 // What was read: so many bytes at the start of the room, all that there were or the room full; or a read failed, and errno says why.
-#[derive(Drop)]
+#[derive(Clone, Copy)]
 pub enum Input {
     Is(usize),
     Broken,

@@ -17,7 +17,7 @@ use search::search::search_good;
 
 // How many hits, whose places, registers and types stand at the start of the three rooms, and how many shapes the file has in all; or
 // the refusal.
-#[derive(Drop)]
+#[derive(Clone, Copy)]
 pub enum Listed {
     Rows(usize, usize),
     Refused(Refusal),

@@ -1,6 +1,7 @@
 // The listing program: a query block and then a file on standard input; a line "place register type" for each hit and then "hits H of M", or one line
 // that says why it is refused. A read that fails is told on standard error, and nothing is printed.
 #![tactic(auto)]
+
 mod listing;
 mod print;
 mod rows;

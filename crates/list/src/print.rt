@@ -14,7 +14,7 @@ use libc::STDOUT_FILENO;
 use text::lines::{put_hits, put_refused};
 
 // How many bytes of what is printed of an input have been handed on.
-#[derive(Drop)]
+#[derive(Clone, Copy)]
 pub struct Printed {
     k: usize,
 }

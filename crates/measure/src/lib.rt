@@ -1,5 +1,6 @@
 // The column's services over plain numbers and slices, so that a C program can measure them. They are no part of what is offered.
 #![tactic(auto)]
+
 ghost use Rattle.std.specs.Prelude.{◌≡◌, ◌+◌, length};
 ghost use Rattle.answer.specs.Lent.{came, left};
 ghost use Rattle.answer.specs.Outcome.{filled, answered};

@@ -13,7 +13,7 @@ use frame::cursor::{Cursor, PageAt};
 use frame::read::page_at;
 
 // The page, whose contents have passed, or their refusal.
-#[derive(Drop)]
+#[derive(Clone, Copy)]
 pub enum Opened {
     Page(PageAt),
     Refused(Refusal),

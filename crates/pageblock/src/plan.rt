@@ -8,7 +8,7 @@ use column::write::{Fitted, fit};
 use frame::layout::{Layout, layout_of};
 
 // The edition, where the parts stand, the width and the size of each column, and the bytes of the whole.
-#[derive(Drop)]
+#[derive(Clone, Copy)]
 pub(crate) struct Plan {
     pub edition: usize,
     pub layout: Layout,

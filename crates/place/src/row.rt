@@ -10,7 +10,7 @@ use frame::head::Head;
 use le::number::u32_at;
 
 // A shape's register and type.
-#[derive(Drop)]
+#[derive(Clone, Copy)]
 pub struct Row {
     pub register: u32,
     pub kind: u8,

@@ -8,7 +8,7 @@ use frame::cursor::{Cursor, PageAt};
 use frame::read::{at_end, glance, page_at};
 
 // A seat: the page of a shape, the cursor at which that page stands, and the shape's index in it.
-#[derive(Drop)]
+#[derive(Clone, Copy)]
 pub struct SeatAt {
     pub at: Cursor,
     pub page: PageAt,
@@ -16,7 +16,7 @@ pub struct SeatAt {
 }
 
 // The seat of a place, or the refusal.
-#[derive(Drop)]
+#[derive(Clone, Copy)]
 pub enum Sought {
     At(SeatAt),
     Refused(Refusal),

@@ -7,7 +7,7 @@ ghost use Rattle.place.specs.Span.{span_of};
 use types::parts::total;
 
 // A shape's first part and the one behind its last, its first vertex and the one behind its last.
-#[derive(Drop)]
+#[derive(Clone, Copy)]
 pub struct Span {
     pub part: usize,
     pub part_end: usize,

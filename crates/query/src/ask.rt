@@ -12,7 +12,7 @@ use extent::boxes::{Box, box_of, good_form, meets};
 use extent::rank::finite_float;
 
 // A query is everything, a spot with its two coordinates, or a window with four.
-#[derive(Drop)]
+#[derive(Clone, Copy)]
 pub enum Query {
     Everything,
     Spot(f64, f64),
@@ -20,7 +20,7 @@ pub enum Query {
 }
 
 // What a searcher asks.
-#[derive(Drop)]
+#[derive(Clone, Copy)]
 pub struct Ask {
     pub query: Query,
 }

@@ -23,14 +23,14 @@ const SPOT: usize = 16;
 const WINDOW: usize = 32;
 
 // The bytes that a query block takes, or the refusal.
-#[derive(Drop)]
+#[derive(Clone, Copy)]
 pub enum BlockLen {
     Is(usize),
     Refused(Refusal),
 }
 
 // What a query block asks, or the refusal.
-#[derive(Drop)]
+#[derive(Clone, Copy)]
 pub enum AskRead {
     Asked(Ask),
     Refused(Refusal),

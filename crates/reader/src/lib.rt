@@ -1,6 +1,7 @@
 // The column reader as a thing that holds the column's bytes and gives one value a call. It only holds: each answer is that of the step on the
 // bytes, `step::step`. The struct is Copy; the position is handed back with each answer, and `moved` takes a reader there.
 #![tactic(auto)]
+
 ghost use Rattle.std.specs.Prelude.{◌≡◌};
 ghost use Rattle.step.specs.Step.{step_of, answer_with};
 ghost use Rattle.reader.specs.Reader.{new_reader, moved_to, reader_answer};
@@ -9,7 +10,7 @@ use column::Position;
 use step::Answer;
 
 // The column's bytes, how many values they are to hold, and a position. The order is that of the step's parameters.
-#[derive(Drop)]
+#[derive(Clone, Copy)]
 pub struct Reader<'a> {
     pub src: &'a [u8],
     pub n: usize,

@@ -1,6 +1,7 @@
 // Writes the sample file of document 01 to standard output, by the proved writer. It is held to the file `stdout`, whose bytes were worked out by
 // hand from the document; docs/FORMAT.md shows them one by one.
 #![tactic(auto)]
+
 use answer::{Refusal, Verdict};
 use libc::STDOUT_FILENO;
 use text::lines::put_refused;

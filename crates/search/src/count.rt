@@ -8,7 +8,7 @@ use answer::{Refusal, Verdict};
 use query::ask::{Ask, judge};
 
 // The number of hits, or the refusal.
-#[derive(Drop)]
+#[derive(Clone, Copy)]
 pub enum Counted {
     Hits(usize),
     Refused(Refusal),

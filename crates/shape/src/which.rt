@@ -11,7 +11,7 @@ use crate::turned::turns_hold;
 use types::rows::{MULTI_POLYGON, row_of};
 
 // The rules that go shape by shape.
-#[derive(Drop)]
+#[derive(Clone, Copy)]
 pub enum Which {
     Ring,
     Grid,

@@ -1,6 +1,7 @@
 // The full check as a program: a file on standard input, and one line that says how many pages and shapes it has, or why it is refused. A
 // read that fails is told on standard error, and nothing is printed.
 #![tactic(auto)]
+
 mod line;
 mod print;
 

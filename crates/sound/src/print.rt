@@ -9,7 +9,7 @@ use crate::line::put_line;
 use libc::STDOUT_FILENO;
 
 // How many bytes of what is printed of an input have been handed on.
-#[derive(Drop)]
+#[derive(Clone, Copy)]
 pub struct Printed {
     k: usize,
 }

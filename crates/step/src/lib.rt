@@ -1,5 +1,6 @@
 // The column read one value a call. The position goes in by value and comes back with each answer; only a value moves it.
 #![tactic(auto)]
+
 ghost use Rattle.std.specs.Prelude.{◌≡◌, ◌+◌, ◌/◌, ◌^◌, ◌≤◌, leb};
 ghost use Rattle.answer.specs.Limits.{vertex_limit};
 ghost use Rattle.answer.specs.Refusal.{because, at_value};
@@ -15,7 +16,7 @@ use answer::limits::MOST_VERTICES;
 use column::Position;
 
 // A value with the next position; or the end, or a refusal, with the position as it came.
-#[derive(Drop)]
+#[derive(Clone, Copy)]
 pub enum Answer {
     Value(u64, Position),
     End(Position),

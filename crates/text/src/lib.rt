@@ -1,5 +1,6 @@
 // Text, put piece by piece into a room that the caller writes out: words and numbers at any place, and the programs' lines as chains of them.
 #![tactic(auto)]
+
 ghost use Rattle.std.specs.Prelude.{◌+◌, ◌≤◌, [], ◌∷◌, length};
 ghost use Rattle.text.specs.Pieces.{Puts, words, number};
 

@@ -18,7 +18,7 @@ pub const MULTI_LINE_STRING: u8 = 5;
 pub const MULTI_POLYGON: u8 = 6;
 
 // A row: least and most parts; least and most vertices in each part; and whether each part is a ring.
-#[derive(Drop)]
+#[derive(Clone, Copy)]
 pub struct TypeRow {
     pub least_parts: u16,
     pub most_parts: u16,

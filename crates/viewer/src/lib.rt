@@ -1,5 +1,6 @@
 // The C face: calls on plain numbers and slices, for the reading-room viewer.
 #![tactic(auto)]
+
 pub mod column_read;
 pub mod column_step;
 pub mod column_write;

@@ -1,5 +1,6 @@
 // The width of a column: the one of least size, found by trying each.
 #![tactic(auto)]
+
 ghost use Rattle.std.specs.Prelude.{◌≡◌, cond, ◌≤◌, length, leb};
 ghost use Rattle.answer.specs.Limits.{vertex_limit};
 ghost use Rattle.width.specs.Width.{zs_of, fulls, column_size, width_of};
@@ -7,7 +8,7 @@ ghost use Rattle.width.specs.Choice.{lesser_choice};
 ghost use Rattle.entry.specs.Step.{marker};
 
 // A width n, and S(n): the bits that the entries take at it.
-#[derive(Drop)]
+#[derive(Clone, Copy)]
 pub struct Choice {
     pub width: u64,
     pub size: u64,

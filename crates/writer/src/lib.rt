@@ -1,5 +1,6 @@
 // The file writer. Its state goes in by value and is handed back; a refused step hands it back as it came, and leaves the buffer as it was.
 #![tactic(auto)]
+
 ghost use Rattle.std.specs.Prelude.{◌≡◌, length};
 ghost use Rattle.answer.specs.Lent.{came};
 ghost use Rattle.answer.specs.Refusal.{because};
@@ -17,7 +18,7 @@ use pageblock::page_block::page_block;
 mod blocks;
 
 // The state: the place of the next block, how many pages and shapes stand before it, and whether the end block does.
-#[derive(Drop)]
+#[derive(Clone, Copy)]
 pub struct Writer {
     pub position: usize,
     pub pages: u32,
@@ -26,7 +27,7 @@ pub struct Writer {
 }
 
 // The answer of a step: the state handed back, and whether the step was taken or refused.
-#[derive(Drop)]
+#[derive(Clone, Copy)]
 pub struct Stepped {
     pub writer: Writer,
     pub verdict: Verdict,
