@@ -1,0 +1,17 @@
+-- `entry::entry_inside` gives the value and the place after it that the entry says, by the entry's two cases. Assumes nothing.
+use Rattle.le.specs.Number.{number}
+use Rattle.entry.proofs.Reading.{given-short, given-full}
+use Rattle.std.proofs.Common.{rules}
+use Rattle.entry.proofs.entry_inside.Goals as goal
+
+pub returns-then-e-m : goal.returns-then-e-m
+returns-then-e-m c =
+    let st = c in
+    given-short 64 (number st.args.s.now) st.args.n st.args.at st.args.a c.field_within-e.result c.field_within-e.ensures
+    st.args.m c.stepped.result st.requires.1 c.if-e-m.true c.stepped.ensures
+
+pub returns-else-e-m : goal.returns-else-e-m
+returns-else-e-m c =
+    let st = c in
+    given-full 64 (number st.args.s.now) st.args.n st.args.at st.args.a c.field_within-e.result c.field_within-e.ensures
+    st.args.m c.window_within.result st.requires.1 c.if-e-m.false c.window_within.ensures
