@@ -1,0 +1,59 @@
+-- `column::walk::fill` gives all the values and the place where they end: the first one, then three walks. Nothing is assumed.
+use mathlib.Core.Path.{sym, ap, ◌∙◌}
+use native.Mathlib.Omega.{arith}
+use lib.ListN.{length-set}
+use Rattle.entry.specs.Step.{marker}
+use Rattle.column.proofs.Filling.{went_on, filled-all}
+use Rattle.column.proofs.walk.fill.Goals as goal
+
+pub fill_inside-inside-requires : goal.fill_inside-inside-requires
+fill_inside-inside-requires c =
+    let st = c in
+    let z = length-set st.args.out.now 0 c.window-first.result in record { fillable = record { wide = st.requires.1; marks = c.marker-m.ensures; given = omega (arith, st.requires.2); few = st.requires.3; room = omega (arith, st.requires.4, z) }; at_bound = omega arith }
+
+pub fill_last-near-requires : goal.fill_last-near-requires
+fill_last-near-requires c =
+    let st = c in
+    let i = c.fill_inside-inside in
+    let z = length-set st.args.out.now 0 c.window-first.result in record {
+      fillable = record {
+        wide = omega (arith, i.ensures.width, st.requires.1);
+        marks = c.marker-m.ensures ∙ ap marker (sym i.ensures.width);
+        given = i.ensures.most;
+        few = st.requires.3;
+        room = omega (arith, st.requires.4, i.ensures.same, z);
+      };
+      at_bound = omega (arith, i.ensures.bound, st.requires.3);
+    }
+
+pub fill_rest-end-requires : goal.fill_rest-end-requires
+fill_rest-end-requires c =
+    let st = c in
+    let went = went_on c.fill_inside-inside.ensures c.fill_last-near.ensures in
+    let z = length-set st.args.out.now 0 c.window-first.result in record {
+      fillable = record {
+        wide = omega (arith, went.width, st.requires.1);
+        marks = c.marker-m.ensures ∙ ap marker (sym went.width);
+        given = went.most;
+        few = st.requires.3;
+        room = omega (arith, st.requires.4, went.same, z);
+      };
+      at_bound = omega (arith, went.bound, st.requires.3);
+    }
+
+pub shape_of-out : goal.shape_of-out
+shape_of-out c =
+    let st = c in
+    let went = went_on c.fill_inside-inside.ensures c.fill_last-near.ensures in
+    c.fill_rest-end.ensures.0.same ∙ went.same ∙ length-set st.args.out.now 0 c.window-first.result
+
+pub returns : goal.returns
+returns c =
+    let st = c in
+    let window = c.window-first in
+    let k = c.fill_last-near in
+    let r = c.fill_rest-end in
+    let went = went_on c.fill_inside-inside.ensures k.ensures in
+    let both = let f = filled-all 64 st.args.s.now st.args.out.now k.new.n.1.1.1.0 r.new.n.1.1.1.0 st.args.n st.args.w window.result k.result r.result
+    st.requires.0 window.ensures st.requires.2 st.requires.4 went r.ensures.0 r.ensures.1 in
+    (f.0, (f.1, omega (arith, went.bound, r.ensures.0.bound, r.ensures.1, st.requires.3))) in record { end = both.0; room = both.1; bound = both.2 }

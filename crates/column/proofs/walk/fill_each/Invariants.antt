@@ -1,0 +1,16 @@
+-- `column::walk::fill_each` gives values one by one as long as the next entry is sure to lie inside the bytes. The invariant: the walk went from where
+-- it began to here. Assumes nothing.
+use Prim.Native.Nat.{◌-◌}
+use native.Mathlib.Omega.{arith}
+use borrow.Author.Tests.{ltb-true}
+use Rattle.le.specs.Number.{number}
+use Rattle.column.specs.Position.{position}
+use Rattle.column.specs.Filling.{Went}
+use Rattle.column.proofs.Filling.{went-none, went-more}
+use Rattle.column.proofs.walk.fill_each.Given as goal
+
+abbrev pub invariant-loop-i : goal.invariant-loop-i
+invariant-loop-i l = Went 64 (number l.s) l.n (position l.initial.at l.initial.i l.w l.initial.last) l.initial.out (position l.at l.i l.w l.last) l.out
+
+abbrev pub decreases-loop-i : goal.decreases-loop-i
+decreases-loop-i l = l.n - l.i

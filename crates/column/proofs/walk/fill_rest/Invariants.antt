@@ -1,0 +1,15 @@
+-- `column::walk::fill_rest` gives the rest of the values. The invariant: the walk went from where it began to here. Assumes nothing.
+use Prim.Native.Nat.{◌-◌}
+use native.Mathlib.Omega.{arith}
+use Rattle.le.specs.Number.{number}
+use Rattle.entry.proofs.Reading.{size-le}
+use Rattle.column.specs.Position.{position}
+use Rattle.column.specs.Filling.{Went}
+use Rattle.column.proofs.Filling.{went-none, went-more}
+use Rattle.column.proofs.walk.fill_rest.Given as goal
+
+abbrev pub invariant-loop-i : goal.invariant-loop-i
+invariant-loop-i l = Went 64 (number l.s) l.n (position l.initial.at l.initial.i l.w l.initial.last) l.initial.out (position l.at l.i l.w l.last) l.out
+
+abbrev pub decreases-loop-i : goal.decreases-loop-i
+decreases-loop-i l = l.n - l.i

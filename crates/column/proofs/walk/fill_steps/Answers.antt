@@ -1,0 +1,83 @@
+-- `column::walk::fill_steps` gives values as long as steps follow each other. The invariant: the walk went from where it began to here, and the
+-- steps that are left would end where all of them would have; so before that place one is left. Assumes nothing.
+use mathlib.Core.Path.{◌≡◌, refl, ◌∙◌}
+use Prim.Native.Nat.{◌+◌, ◌-◌, ◌*◌, ◌≤◌}
+use native.Mathlib.Omega.{arith}
+use Rattle.le.specs.Number.{number}
+use Rattle.entry.proofs.Reading.{given-short}
+use Rattle.column.specs.Position.{position}
+use Rattle.column.specs.Filling.{Went}
+use Rattle.column.proofs.Filling.{went-none, went-more}
+use Rattle.column.proofs.Stepping.{step_left, step-on}
+use Rattle.column.proofs.walk.fill_steps.Goals as goal
+
+pub overflow_sub-n : goal.overflow_sub-n
+overflow_sub-n c = c.requires.0.given
+
+pub steps_end-end-requires : goal.steps_end-end-requires
+steps_end-end-requires c = let st = c in (st.requires.fillable.wide, omega (arith, st.requires.fillable.few), st.requires.at_bound.0)
+
+pub loop-at-init : goal.loop-at-init
+loop-at-init c = (went-none c.requires.0.given, omega arith, refl)
+
+pub field_within-z-requires : goal.field_within-z-requires
+field_within-z-requires c =
+    let st = c in
+    (st.requires.fillable.wide, st.requires.fillable.marks, omega (arith, c.loop-at-test.true, c.steps_end-end.ensures.0, st.requires.at_bound.1))
+
+pub shape_of-out-then-m-z : goal.shape_of-out-then-m-z
+shape_of-out-then-m-z c = c.loop-at.invariant.0.same
+
+pub returns-then-m-z : goal.returns-then-m-z
+returns-then-m-z c = let l = c.loop-at in (l.invariant.0, l.invariant.1)
+
+pub overflow_add-at : goal.overflow_add-at
+overflow_add-at c =
+    let st = c in
+    omega (arith, c.loop-at.invariant.0.bound, st.requires.fillable.wide, st.requires.fillable.few, st.requires.at_bound.0)
+
+pub offset_bounds-out-i : goal.offset_bounds-out-i
+offset_bounds-out-i c =
+    let st = c in
+    omega (arith, c.loop-at.invariant.0.most, st.requires.fillable.few)
+
+pub bounds-out-i : goal.bounds-out-i
+bounds-out-i c =
+    let st = c in
+    let l = c.loop-at in
+    let e = c.steps_end-end in
+    let more = step_left st.args.from.width st.args.n l.i l.at e.result c.loop-at-test.true (omega (arith, e.ensures.1, l.invariant.2)) in
+    omega (arith, more, st.requires.fillable.room, l.invariant.0.same)
+
+pub overflow_add-i : goal.overflow_add-i
+overflow_add-i c =
+    let st = c in
+    omega (arith, c.loop-at.invariant.0.most, st.requires.fillable.few)
+
+pub loop-at-smaller : goal.loop-at-smaller
+loop-at-smaller c =
+    let st = c in
+    let l = c.loop-at in
+    let e = c.steps_end-end in
+    let more = step_left st.args.from.width st.args.n l.i l.at e.result c.loop-at-test.true (omega (arith, e.ensures.1, l.invariant.2)) in
+    omega (arith, more)
+
+pub loop-at-preserved : goal.loop-at-preserved
+loop-at-preserved c =
+    let st = c in
+    let l = c.loop-at in
+    let e = c.steps_end-end in
+    let z = c.field_within-z in
+    let w = st.args.from.width in
+    let more = step_left w st.args.n l.i l.at e.result c.loop-at-test.true (omega (arith, e.ensures.1, l.invariant.2)) in
+    let said = given-short 64 (number st.args.s.now) w l.at l.last z.result z.ensures st.args.m c.stepped-last.result st.requires.fillable.marks c.if-m-z.false c.stepped-last.ensures in (
+      went-more l.at l.i w l.last l.out l.invariant.0 c.stepped-last.result (l.at + w) st.requires.fillable.wide more st.requires.fillable.room said,
+      omega (arith, l.invariant.1),
+      step-on w st.args.n l.i l.at more ∙ l.invariant.2,
+    )
+
+pub shape_of-out : goal.shape_of-out
+shape_of-out c = c.loop-at.invariant.0.same
+
+pub returns : goal.returns
+returns c = let l = c.loop-at in (l.invariant.0, l.invariant.1)
