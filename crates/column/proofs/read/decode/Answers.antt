@@ -34,7 +34,7 @@ misfit-requires c =
     let wide = c.wide-w in
     let if4 = c.if-w-gt64 in
     let fill = c.fill-e in
-    let st = c in record { w_value = (wide.ensures, if4.false, omega (arith, if1.false), st.requires.0); s_nonzero = (omega (arith, if3.false), ap (λ (e : ℕ). (e + 7) / 8) fill.ensures.0, omega (arith, fill.ensures.1.1), c.if-took-len.true) }
+    let st = c in record { w_value = (wide.ensures, if4.false, omega (arith, if1.false), st.requires.0); s_nonzero = (omega (arith, if3.false), ap (λ (e : ℕ). (e + 7) / 8) fill.ensures.end, omega (arith, fill.ensures.bound), c.if-took-len.true) }
 
 pub returns-then-took-len : goal.returns-then-took-len
 returns-then-took-len c =
@@ -44,7 +44,7 @@ returns-then-took-len c =
     let if4 = c.if-w-gt64 in
     let fill = c.fill-e in
     let a = c.args in
-    decodes-refused 64 a.s.now a.n a.out.now if1.false if3.false (omega (arith, wide.ensures, if4.false)) fill.result fill.new.n.1.1.0 fill.ensures.0 fill.ensures.1.0 c.misfit.result c.misfit.ensures
+    decodes-refused 64 a.s.now a.n a.out.now if1.false if3.false (omega (arith, wide.ensures, if4.false)) fill.result fill.new.out fill.ensures.end fill.ensures.room c.misfit.result c.misfit.ensures
 
 pub returns-then-window_in_last_byte-ne0 : goal.returns-then-window_in_last_byte-ne0
 returns-then-window_in_last_byte-ne0 c =
@@ -55,7 +55,7 @@ returns-then-window_in_last_byte-ne0 c =
     let if4 = c.if-w-gt64 in
     let fill = c.fill-e in
     let a = c.args in
-    rw c.refused_at.ensures (decodes-fill 64 a.s.now a.n a.out.now if1.false if3.false (omega (arith, wide.ensures, if4.false)) fill.result fill.new.n.1.1.0 fill.ensures.0 fill.ensures.1.0 (λ i. (shared-slice-known.given i).fits) c.if-took-len.false (λ z. c.if-window_in_last_byte-ne0.true (c.window_in_last_byte.ensures ∙ z)))
+    rw c.refused_at.ensures (decodes-fill 64 a.s.now a.n a.out.now if1.false if3.false (omega (arith, wide.ensures, if4.false)) fill.result fill.new.out fill.ensures.end fill.ensures.room (λ i. (shared-slice-known.given i).fits) c.if-took-len.false (λ z. c.if-window_in_last_byte-ne0.true (c.window_in_last_byte.ensures ∙ z)))
 
 pub returns : goal.returns
 returns c =
@@ -66,4 +66,4 @@ returns c =
     let if4 = c.if-w-gt64 in
     let fill = c.fill-e in
     let a = c.args in
-    decodes-good 64 a.s.now a.n a.out.now if1.false if3.false (omega (arith, wide.ensures, if4.false)) fill.result fill.new.n.1.1.0 fill.ensures.0 fill.ensures.1.0 (λ i. (shared-slice-known.given i).fits) c.if-took-len.false (sym c.window_in_last_byte.ensures ∙ c.if-window_in_last_byte-ne0.false)
+    decodes-good 64 a.s.now a.n a.out.now if1.false if3.false (omega (arith, wide.ensures, if4.false)) fill.result fill.new.out fill.ensures.end fill.ensures.room (λ i. (shared-slice-known.given i).fits) c.if-took-len.false (sym c.window_in_last_byte.ensures ∙ c.if-window_in_last_byte-ne0.false)

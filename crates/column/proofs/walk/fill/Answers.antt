@@ -54,6 +54,6 @@ returns c =
     let k = c.fill_last-near in
     let r = c.fill_rest-end in
     let went = went_on c.fill_inside-inside.ensures k.ensures in
-    let both = let f = filled-all 64 st.args.s.now st.args.out.now k.new.n.1.1.1.0 r.new.n.1.1.1.0 st.args.n st.args.w window.result k.result r.result
+    let f = filled-all 64 st.args.s.now st.args.out.now k.new.out r.new.out st.args.n st.args.w window.result k.result r.result
     st.requires.0 window.ensures st.requires.2 st.requires.4 went r.ensures.0 r.ensures.1 in
-    (f.0, (f.1, omega (arith, went.bound, r.ensures.0.bound, r.ensures.1, st.requires.3))) in record { end = both.0; room = both.1; bound = both.2 }
+    record { end = f.0; room = f.1; bound = omega (arith, went.bound, r.ensures.0.bound, r.ensures.1, st.requires.3) }

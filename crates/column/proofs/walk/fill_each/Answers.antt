@@ -10,14 +10,14 @@ use Rattle.column.proofs.Filling.{went-none, went-more}
 use Rattle.column.proofs.walk.fill_each.Goals as goal
 
 pub loop-i-init : goal.loop-i-init
-loop-i-init c = went-none c.requires.0.given
+loop-i-init c = went-none c.requires.fillable.given
 
 pub entry_inside-e-requires : goal.entry_inside-e-requires
 entry_inside-e-requires c =
     let st = c in
     let l = c.loop-i in
     let before = c.sure_before-before in
-    let near = ltb-true l.at before.result c.if-at-before.true in (
+    let near = ltb-true l.at before.result c.if-at-before.true-raw in (
       st.requires.fillable.wide,
       st.requires.fillable.marks,
       omega (arith, l.invariant.bound, st.requires.fillable.few, st.requires.at_bound),

@@ -12,23 +12,23 @@ use Rattle.column.proofs.Filling.{went-none, went-more}
 use Rattle.column.proofs.walk.fill_last.Goals as goal
 
 pub overflow_add-at : goal.overflow_add-at
-overflow_add-at c = omega (arith, c.requires.1)
+overflow_add-at c = omega (arith, c.requires.at_bound)
 
 pub returns-then-at-len : goal.returns-then-at-len
-returns-then-at-len c = went-none c.requires.0.given
+returns-then-at-len c = went-none c.requires.fillable.given
 
 pub returns-then-len-lt8 : goal.returns-then-len-lt8
-returns-then-len-lt8 c = went-none c.requires.0.given
+returns-then-len-lt8 c = went-none c.requires.fillable.given
 
 pub loop-i-init : goal.loop-i-init
-loop-i-init c = (went-none c.requires.0.given, omega (arith, c.if-at-len.false))
+loop-i-init c = (went-none c.requires.fillable.given, omega (arith, c.if-at-len.false))
 
 pub field_in_last_eight-e-requires : goal.field_in_last_eight-e-requires
 field_in_last_eight-e-requires c =
     let st = c in
     let l = c.loop-i in
     let long = c.if-len-lt8.false in
-    let here = ltb-true (l.at / 8) (length st.args.s.now) c.if-at-len-2.true in
+    let here = ltb-true (l.at / 8) (length st.args.s.now) c.if-at-len-2.true-raw in
     (omega (arith, long), omega (arith, long, l.invariant.1), omega (arith, here))
 
 pub shape_of-out-then-m-e : goal.shape_of-out-then-m-e

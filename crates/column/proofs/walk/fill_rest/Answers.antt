@@ -9,7 +9,7 @@ use Rattle.column.proofs.Filling.{went-none, went-more}
 use Rattle.column.proofs.walk.fill_rest.Goals as goal
 
 pub loop-i-init : goal.loop-i-init
-loop-i-init c = went-none c.requires.0.given
+loop-i-init c = went-none c.requires.fillable.given
 
 pub entry_at-e-requires : goal.entry_at-e-requires
 entry_at-e-requires c =

@@ -10,14 +10,14 @@ use Rattle.column.proofs.Filling.{went-none, went-more, went-again}
 use Rattle.column.proofs.walk.fill_runs.Goals as goal
 
 pub loop-i-init : goal.loop-i-init
-loop-i-init c = went-none c.requires.0.given
+loop-i-init c = went-none c.requires.fillable.given
 
 pub entry_inside-e-requires : goal.entry_inside-e-requires
 entry_inside-e-requires c =
     let st = c in
     let l = c.loop-i in
     let before = c.sure_before-before in
-    let near = ltb-true l.at before.result c.if-at-before.true in (
+    let near = ltb-true l.at before.result c.if-at-before.true-raw in (
       st.requires.fillable.wide,
       st.requires.fillable.marks,
       omega (arith, l.invariant.bound, st.requires.fillable.few, st.requires.at_bound),
@@ -36,12 +36,9 @@ fill_steps-p-requires c =
     let l = c.loop-i in
     let e = c.entry_inside-e in
     let before = c.sure_before-before in
-    let near = ltb-true l.at before.result c.if-at-before.true in
-    let both = let one = went-more l.at l.i st.args.from.width l.last l.out l.invariant e.result.value e.result.next st.requires.fillable.wide
-    c.loop-i-test.true st.requires.fillable.room e.ensures in (
-      record { wide = st.requires.fillable.wide; marks = st.requires.fillable.marks; given = one.most; few = st.requires.fillable.few; room = omega (arith, one.same, st.requires.fillable.room) },
-      (omega (arith, one.bound, st.requires.fillable.few, st.requires.at_bound), omega (arith, before.ensures.1 (omega (arith, near)))),
-    ) in record { fillable = both.0; at_bound = both.1; limit_bound = both.2 }
+    let near = ltb-true l.at before.result c.if-at-before.true-raw in
+    let one = went-more l.at l.i st.args.from.width l.last l.out l.invariant e.result.value e.result.next st.requires.fillable.wide
+    c.loop-i-test.true st.requires.fillable.room e.ensures in record { fillable = record { wide = st.requires.fillable.wide; marks = st.requires.fillable.marks; given = one.most; few = st.requires.fillable.few; room = omega (arith, one.same, st.requires.fillable.room) }; at_bound = omega (arith, one.bound, st.requires.fillable.few, st.requires.at_bound); limit_bound = omega (arith, before.ensures.1 (omega (arith, near))) }
 
 pub loop-i-smaller : goal.loop-i-smaller
 loop-i-smaller c =

@@ -12,18 +12,18 @@ use Rattle.column.proofs.Stepping.{step_left, step-on}
 use Rattle.column.proofs.walk.fill_steps.Goals as goal
 
 pub overflow_sub-n : goal.overflow_sub-n
-overflow_sub-n c = c.requires.0.given
+overflow_sub-n c = c.requires.fillable.given
 
 pub steps_end-end-requires : goal.steps_end-end-requires
-steps_end-end-requires c = let st = c in (st.requires.fillable.wide, omega (arith, st.requires.fillable.few), st.requires.at_bound.0)
+steps_end-end-requires c = let st = c in (st.requires.fillable.wide, omega (arith, st.requires.fillable.few), st.requires.at_bound)
 
 pub loop-at-init : goal.loop-at-init
-loop-at-init c = (went-none c.requires.0.given, omega arith, refl)
+loop-at-init c = (went-none c.requires.fillable.given, omega arith, refl)
 
 pub field_within-z-requires : goal.field_within-z-requires
 field_within-z-requires c =
     let st = c in
-    (st.requires.fillable.wide, st.requires.fillable.marks, omega (arith, c.loop-at-test.true, c.steps_end-end.ensures.0, st.requires.at_bound.1))
+    (st.requires.fillable.wide, st.requires.fillable.marks, omega (arith, c.loop-at-test.true, c.steps_end-end.ensures.0, st.requires.limit_bound))
 
 pub shape_of-out-then-m-z : goal.shape_of-out-then-m-z
 shape_of-out-then-m-z c = c.loop-at.invariant.0.same
@@ -34,7 +34,7 @@ returns-then-m-z c = let l = c.loop-at in (l.invariant.0, l.invariant.1)
 pub overflow_add-at : goal.overflow_add-at
 overflow_add-at c =
     let st = c in
-    omega (arith, c.loop-at.invariant.0.bound, st.requires.fillable.wide, st.requires.fillable.few, st.requires.at_bound.0)
+    omega (arith, c.loop-at.invariant.0.bound, st.requires.fillable.wide, st.requires.fillable.few, st.requires.at_bound)
 
 pub offset_bounds-out-i : goal.offset_bounds-out-i
 offset_bounds-out-i c =

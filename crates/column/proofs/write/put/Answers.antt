@@ -47,7 +47,7 @@ put_field-requires-3 c =
     let st = c in
     let some : 0 < length st.args.vs.now = omega (arith, c.if-count-eq0.false) in
     let size = part-size 64 st.args.n st.args.vs.now st.args.part.now some st.requires.2 in
-    (omega arith, pow_pos _, omega (arith, size, c.put_entries-end.ensures.1))
+    (omega arith, pow_pos _, omega (arith, size, c.put_entries-end.ensures.place))
 
 pub returns : goal.returns
 returns c =
@@ -61,4 +61,4 @@ returns c =
     let some : 0 < length st.args.vs.now = omega (arith, if1.false) in
     put_all 64 st.args.n st.args.vs.now st.args.part.now some st.requires.2 put-field.new.s put-field2.new.s put_entries.new.part c.put_field-3.new.s put_entries.result
     st.requires.0 (omega arith) (λ i. (slice-known.given i).fits) (λ i. (shared-slice-known.given i).fits)
-    put-field.ensures put-field2.ensures put_entries.ensures c.put_field-3.ensures
+    put-field.ensures put-field2.ensures (put_entries.ensures.entries, put_entries.ensures.place) c.put_field-3.ensures

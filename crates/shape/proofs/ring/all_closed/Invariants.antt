@@ -1,0 +1,19 @@
+-- `shape::ring::all_closed` tests each part: those to come, with the vertices to come, decide. Assumes nothing.
+use mathlib.Core.Path.{◌≡◌, refl, sym, ◌∙◌}
+use Prim.Native.Nat.{◌+◌, ◌-◌, ◌≤◌}
+use native.Mathlib.Omega.{arith}
+use borrow.Author.Tests.{not-true, not-false}
+use lib.ListN.{length, get_or, drop}
+use Rattle.answer.specs.All.{all_of}
+use Rattle.answer.proofs.Alls.{all_more, all-stop, all_done}
+use Rattle.shape.specs.Outline.{parts_of}
+use Rattle.shape.specs.Rules.{closed_ring}
+use Rattle.shape.proofs.Cuts.{same-part}
+use Rattle.shape.proofs.Parting.{Parting, parting-none, parting-there, parting-stands, parting-more, parting-end}
+use Rattle.shape.proofs.ring.all_closed.Given as goal
+
+abbrev pub invariant-loop-i : goal.invariant-loop-i
+invariant-loop-i l = Parting l.lens l.xs l.ys l.i l.at × (all_of closed_ring (drop l.i (parts_of l.lens l.xs l.ys)) ≡ all_of closed_ring (parts_of l.lens l.xs l.ys))
+
+abbrev pub decreases-loop-i : goal.decreases-loop-i
+decreases-loop-i l = length l.lens - l.i
