@@ -8,7 +8,7 @@ use Rattle.shape.specs.Outline.{Outline, Shape}
 use Rattle.page.specs.Contents.{contents_of}
 use Rattle.fetch.specs.declared.fetch.Fetched.{Fetched}
 use Rattle.fetch.specs.declared.fetch.Fetched.TheVariants as fetched
-use Rattle.answer.specs.Lent.{Lent, came, left}
+use Rattle.answer.specs.Lent.{LentMut, came_mut, left}
 use Rattle.place.specs.Nth.{shape_at}
 use Rattle.place.specs.Seek.{Seat, seat_of}
 
@@ -69,6 +69,6 @@ pub record Fetches (o : Out Shape) (lens xs ys : List ℕ) (says : Fetched) (len
   pub ys_room : ys-left ≡ filled (list_of (λ x. x.ys) o) ys
 
 -- the contract, by the three lent rooms: o is the outcome with so much room
-abbrev pub FetchesIn : (Rooms → Out Shape) → Lent → Lent → Lent → Fetched → Type 0
+abbrev pub FetchesIn : (Rooms → Out Shape) → LentMut → LentMut → LentMut → Fetched → Type 0
 FetchesIn o lens xs ys says =
-    Fetches (o (rooms_of (came lens) (came xs) (came ys))) (came lens) (came xs) (came ys) says (left lens) (left xs) (left ys)
+    Fetches (o (rooms_of (came_mut lens) (came_mut xs) (came_mut ys))) (came_mut lens) (came_mut xs) (came_mut ys) says (left lens) (left xs) (left ys)

@@ -2,7 +2,6 @@
 #![tactic(auto)]
 
 ghost use Rattle.std.specs.Prelude.{◌≡◌, ◌+◌, length};
-ghost use Rattle.answer.specs.Lent.{came, left};
 ghost use Rattle.answer.specs.Outcome.{filled, answered};
 ghost use Rattle.column.specs.Read.{read_of};
 ghost use Rattle.column.specs.Write.{write_of};
@@ -40,8 +39,8 @@ fn count_of(f: Filled) -> u64
 // Reads n values of a column: 0, or the refusal's number.
 #[unsafe(no_mangle)]
 pub extern "C" fn measure_read(s: &[u8], n: usize, out: &mut [u64]) -> u64
-    ensures word { result ≡ number_of (answered (read_of 64 s.now n (length (came out)))) }
-    ensures room { left out ≡ filled (read_of 64 s.now n (length (came out))) (came out) }
+    ensures word { result ≡ number_of (answered (read_of 64 s.now n (length out.old))) }
+    ensures room { out.new ≡ filled (read_of 64 s.now n (length out.old)) out.old }
 {
     number_of(column::read::read(s, n, out))
 }
@@ -49,8 +48,8 @@ pub extern "C" fn measure_read(s: &[u8], n: usize, out: &mut [u64]) -> u64
 // Decodes n values of a column straight into out: the same number. A refusal by 3 or 2 leaves out as it was.
 #[unsafe(no_mangle)]
 pub extern "C" fn measure_decode(s: &[u8], n: usize, out: &mut [u64]) -> u64
-    ensures word { result ≡ number_of (answered (read_of 64 s.now n (length (came out)))) }
-    ensures room { left out ≡ scratch_left 64 s.now n (came out) }
+    ensures word { result ≡ number_of (answered (read_of 64 s.now n (length out.old))) }
+    ensures room { out.new ≡ scratch_left 64 s.now n out.old }
 {
     if MOST_VERTICES < n {
         return le::number::wide(answer::table::MANY);
@@ -64,8 +63,8 @@ pub extern "C" fn measure_decode(s: &[u8], n: usize, out: &mut [u64]) -> u64
 // Writes the column of vs: its size in bytes, or 2^32 times the refusal's number.
 #[unsafe(no_mangle)]
 pub extern "C" fn measure_write(vs: &[u64], out: &mut [u8]) -> u64
-    ensures word { result ≡ filled_count (answered (write_of 64 vs.now (length (came out)))) }
-    ensures room { left out ≡ filled (write_of 64 vs.now (length (came out))) (came out) }
+    ensures word { result ≡ filled_count (answered (write_of 64 vs.now (length out.old))) }
+    ensures room { out.new ≡ filled (write_of 64 vs.now (length out.old)) out.old }
 {
     count_of(column::write::write(vs, out))
 }

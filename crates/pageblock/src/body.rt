@@ -1,7 +1,7 @@
 // The parts of a page's body, put where its layout says; what stands elsewhere stays.
 ghost use Rattle.std.specs.Prelude.{◌≡◌, ◌+◌, ◌≤◌, length};
 ghost use Rattle.std.proofs.lemmas.List.Edits.{sets};
-ghost use Rattle.answer.specs.Lent.{came, left};
+ghost use Rattle.answer.specs.Lent.{came};
 ghost use Rattle.answer.specs.Limits.{vertex_limit};
 ghost use Rattle.column.specs.Column.{encode};
 ghost use Rattle.frame.specs.Layout.{bounds_place};
@@ -46,7 +46,7 @@ pub(crate) fn put_tables(
     lens: &[u16],
 )
     requires { Laid l registers.now types.now counts.now lens.now × (body + l.sizes ≤ length d.old) }
-    ensures { left d ≡ sets (came d) (body + l.registers) (table_bytes l.each (came registers) (came types) (came counts) (came lens)) }
+    ensures { d.new ≡ sets d.old (body + l.registers) (table_bytes l.each (came registers) (came types) (came counts) (came lens)) }
 {
     put_u32s(d, body + l.registers, registers);
     put_bytes(d, body + l.types, types);

@@ -1,7 +1,7 @@
 // A page as a block of its own, at the start of a lent room. Its size is known before a byte is written.
 ghost use Rattle.std.specs.Prelude.{◌≡◌, ◌+◌, ◌≤◌, length};
 ghost use Rattle.std.proofs.lemmas.List.Edits.{sets};
-ghost use Rattle.answer.specs.Lent.{came, left, FillsIn};
+ghost use Rattle.answer.specs.Lent.{FillsIn};
 ghost use Rattle.block.specs.Block.{head_bytes};
 ghost use Rattle.pageblock.specs.Body.{handed_in, handed, page_bytes};
 ghost use Rattle.pageblock.specs.Page.{page_block_of};
@@ -29,7 +29,7 @@ fn put_page(
     ys: &[u64],
 )
     requires { Planned (handed_in registers types counts lens xs ys) plan × (head_bytes + plan.len ≤ length d.old) }
-    ensures { left d ≡ sets (came d) 0 (page_bytes plan.edition (handed registers types counts lens xs ys)) }
+    ensures { d.new ≡ sets d.old 0 (page_bytes plan.edition (handed registers types counts lens xs ys)) }
 {
     put_head(d, 0, plan.len, PAGE);
     put_counts(d, HEAD, registers.len(), xs.len(), lens.len());
@@ -49,7 +49,7 @@ pub fn page_block(
     xs: &[u64],
     ys: &[u64],
 ) -> Filled
-    ensures { FillsIn (page_block_of edition (length (came room)) (handed registers types counts lens xs ys)) room result }
+    ensures { FillsIn (page_block_of edition (length room.old) (handed registers types counts lens xs ys)) room result }
 {
     if let Verdict::Refused(w) = page_rules(registers, types, counts, lens, xs, ys) {
         return Filled::Refused(w);

@@ -6,7 +6,7 @@ use Rattle.search.specs.Search.{search_of}
 use Rattle.step.specs.Step.{ValueOrEnd, value, end, step_of}
 use Rattle.pageblock.specs.Body.{Handed}
 use Rattle.writer.specs.State.{Added, open_of, page_step_of, close_of, buffer_after}
-use Rattle.answer.specs.Lent.{Lent, came, left}
+use Rattle.answer.specs.Lent.{LentMut, came_mut, left}
 use Rattle.viewer.specs.Word.{Told}
 use Rattle.viewer.specs.Four.{four_rule, position_of, position_words, state_of, state_words}
 
@@ -56,5 +56,5 @@ pub record Kept (o : Out Added) (words d : List ℕ) (says : ℕ) (next left : L
   pub buffer : left ≡ buffer_after o d
 
 -- the same, of words and a buffer that are lent
-abbrev pub KeptIn : Out Added → Lent → Lent → ℕ → Type 0
-KeptIn o words buffer says = Kept o (came words) (came buffer) says (left words) (left buffer)
+abbrev pub KeptIn : Out Added → LentMut → LentMut → ℕ → Type 0
+KeptIn o words buffer says = Kept o (came_mut words) (came_mut buffer) says (left words) (left buffer)

@@ -6,7 +6,7 @@ use Rattle.answer.specs.Refusal.{because}
 use Rattle.answer.specs.Outcome.{Out, ok, need, on, filled}
 use Rattle.shape.specs.Outline.{Shape}
 use Rattle.fetch.specs.Fetch.{shape_in, Rooms, roomy, list_of}
-use Rattle.answer.specs.Lent.{Lent, came, left}
+use Rattle.answer.specs.Lent.{LentMut, came_mut, left}
 use Rattle.viewer.specs.Word.{Told}
 
 -- room for four words about the shape, and for its lists
@@ -33,5 +33,5 @@ pub record Shown (o : Out Shape) (about lens xs ys : List ℕ) (says : ℕ) (abo
   pub ys_room : ys-left ≡ filled (list_of (λ x. x.ys) o) ys
 
 -- the same, of rooms that are lent
-abbrev pub ShownIn : Out Shape → Lent → Lent → Lent → Lent → ℕ → Type 0
-ShownIn o about lens xs ys says = Shown o (came about) (came lens) (came xs) (came ys) says (left about) (left lens) (left xs) (left ys)
+abbrev pub ShownIn : Out Shape → LentMut → LentMut → LentMut → LentMut → ℕ → Type 0
+ShownIn o about lens xs ys says = Shown o (came_mut about) (came_mut lens) (came_mut xs) (came_mut ys) says (left about) (left lens) (left xs) (left ys)

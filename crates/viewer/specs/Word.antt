@@ -4,7 +4,7 @@ use Rattle.std.specs.Prelude.{ℕ, ◌+◌, ◌*◌, ◌^◌, ◌≡◌, List}
 use Rattle.answer.specs.declared.Filled.{Filled}
 use Rattle.answer.specs.declared.Filled.TheVariants as answer
 use Rattle.answer.specs.Outcome.{Out, refused, ok, on, filled}
-use Rattle.answer.specs.Lent.{Lent, came, left}
+use Rattle.answer.specs.Lent.{LentMut, came_mut, left}
 
 -- a number below 2 ^ 32, or a refusal
 unfoldable pub word_of : Out ℕ → ℕ
@@ -23,5 +23,5 @@ pub record Told {A : Type 0} (o : Out A) (number : A → ℕ) (start : A → Lis
   pub room : left ≡ filled (on o (λ a. ok (start a))) d
 
 -- the same, of a room that is lent
-abbrev pub ToldIn : {A : Type 0} → Out A → (A → ℕ) → (A → List ℕ) → Lent → ℕ → Type 0
-ToldIn o number start room says = Told o number start (came room) says (left room)
+abbrev pub ToldIn : {A : Type 0} → Out A → (A → ℕ) → (A → List ℕ) → LentMut → ℕ → Type 0
+ToldIn o number start room says = Told o number start (came_mut room) says (left room)

@@ -1,5 +1,4 @@
 // One value of a column, as one word.
-ghost use Rattle.answer.specs.Lent.{came};
 ghost use Rattle.viewer.specs.Word.{ToldIn};
 ghost use Rattle.viewer.specs.Calls.{step_call, gives, moves};
 
@@ -12,7 +11,7 @@ use step::Answer;
 // 1 with a value: the words are then the next position, whose last value it is. 0 at the end, or the refusal; the words are then as they came.
 #[unsafe(no_mangle)]
 pub extern "C" fn boundary_column_step(column: &[u8], n: usize, position: &mut [u64]) -> u64
-    ensures { ToldIn (step_call column.now n (came position)) gives moves position result }
+    ensures { ToldIn (step_call column.now n position.old) gives moves position result }
 {
     if position.len() < 4 {
         return number_word(ROOM);

@@ -4,7 +4,6 @@ ghost use Rattle.answer.specs.Table as table;
 ghost use Rattle.answer.specs.Refusal.{because};
 ghost use Rattle.answer.specs.Outcome.{refused, on};
 ghost use Rattle.fetch.specs.Fetch.{shape_in, rooms_of};
-ghost use Rattle.answer.specs.Lent.{came};
 ghost use Rattle.viewer.specs.Word.{word_of};
 ghost use Rattle.viewer.specs.Fetch.{fetch_call, ShownIn};
 
@@ -51,7 +50,7 @@ pub extern "C" fn boundary_fetch(
     xs: &mut [u64],
     ys: &mut [u64],
 ) -> u64
-    ensures { ShownIn (fetch_call file.now place (length (came about)) (rooms_of (came lens) (came xs) (came ys))) about lens xs ys result }
+    ensures { ShownIn (fetch_call file.now place (length about.old) (rooms_of lens.old xs.old ys.old)) about lens xs ys result }
 {
     if about.len() < 4 {
         return without_room(file, place as usize);

@@ -1,6 +1,5 @@
 // The search, as one word.
 ghost use Rattle.std.specs.Prelude.{length};
-ghost use Rattle.answer.specs.Lent.{came};
 ghost use Rattle.viewer.specs.Word.{ToldIn};
 ghost use Rattle.viewer.specs.Calls.{search_call};
 
@@ -11,7 +10,7 @@ use search::search::search_good;
 // The places of the hits at the start of a room, ascending, and their number; or the refusal, which leaves the room. The query is exactly its block.
 #[unsafe(no_mangle)]
 pub extern "C" fn boundary_search(query: &[u8], file: &[u8], places: &mut [u32]) -> u64
-    ensures { ToldIn (search_call query.now file.now (length (came places))) length (λ l. l) places result }
+    ensures { ToldIn (search_call query.now file.now (length places.old)) length (λ l. l) places result }
 {
     match ask_of(query) {
         AskRead::Refused(w) => refusal_word(w),

@@ -1,6 +1,5 @@
 // A file closed, as one word.
 ghost use Rattle.std.specs.Prelude.{length};
-ghost use Rattle.answer.specs.Lent.{came};
 ghost use Rattle.viewer.specs.Calls.{close_call, KeptIn};
 
 use crate::state::{hand_back, state_of};
@@ -10,7 +9,7 @@ use answer::table::ROOM;
 // 0, with the end block at the state's position and a closed state in the words; or the refusal, which leaves both.
 #[unsafe(no_mangle)]
 pub extern "C" fn boundary_close(writer: &mut [u64], buffer: &mut [u8]) -> u64
-    ensures { KeptIn (close_call (came writer) (length (came buffer))) writer buffer result }
+    ensures { KeptIn (close_call writer.old (length buffer.old)) writer buffer result }
 {
     if writer.len() < 4 {
         return number_word(ROOM);

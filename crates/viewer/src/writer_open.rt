@@ -1,6 +1,5 @@
 // The file writer opened, as one word.
 ghost use Rattle.std.specs.Prelude.{length};
-ghost use Rattle.answer.specs.Lent.{came};
 ghost use Rattle.viewer.specs.Calls.{open_call, KeptIn};
 
 use crate::state::{hand_back, state_of};
@@ -11,7 +10,7 @@ use answer::table::ROOM;
 // is used.
 #[unsafe(no_mangle)]
 pub extern "C" fn boundary_open(writer: &mut [u64], buffer: &mut [u8]) -> u64
-    ensures { KeptIn (open_call (came writer) (length (came buffer))) writer buffer result }
+    ensures { KeptIn (open_call writer.old (length buffer.old)) writer buffer result }
 {
     if writer.len() < 4 {
         return number_word(ROOM);

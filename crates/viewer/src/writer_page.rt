@@ -1,7 +1,6 @@
 // A page added to a file, as one word.
 ghost use Rattle.std.specs.Prelude.{length};
 ghost use Rattle.pageblock.specs.Body.{handed};
-ghost use Rattle.answer.specs.Lent.{came};
 ghost use Rattle.viewer.specs.Calls.{page_call, KeptIn};
 
 use crate::state::{hand_back, state_of};
@@ -20,7 +19,7 @@ pub extern "C" fn boundary_page(
     xs: &[u64],
     ys: &[u64],
 ) -> u64
-    ensures { KeptIn (page_call (came writer) (length (came buffer)) (handed registers types counts lens xs ys)) writer buffer result }
+    ensures { KeptIn (page_call writer.old (length buffer.old) (handed registers types counts lens xs ys)) writer buffer result }
 {
     if writer.len() < 4 {
         return number_word(ROOM);

@@ -3,7 +3,7 @@
 use Rattle.std.specs.Prelude.{ℕ, ◌+◌, ◌≡◌, Bool, true, false, not, cond, ◌&&◌, List, leb, ltb, length}
 use Rattle.std.proofs.lemmas.List.Edits.{sets}
 use Rattle.answer.specs.Limits.{most_pages, most_shapes}
-use Rattle.answer.specs.Lent.{Lent, came, left}
+use Rattle.answer.specs.Lent.{LentMut, came_mut, left}
 use Rattle.answer.specs.Table as table
 use Rattle.answer.specs.Refusal.{because}
 use Rattle.answer.specs.Outcome.{Out, refused, ok, need, on}
@@ -92,8 +92,8 @@ pub record Steps (o : Out Added) (st : Writer) (d : List ℕ) (r : Stepped) (lef
   pub buffer : left ≡ buffer_after o d
 
 -- the same, of a buffer that is lent
-abbrev pub StepsIn : Out Added → Writer → Lent → Stepped → Type 0
-StepsIn o st d r = Steps o st (came d) r (left d)
+abbrev pub StepsIn : Out Added → Writer → LentMut → Stepped → Type 0
+StepsIn o st d r = Steps o st (came_mut d) r (left d)
 
 -- ---- for an inner step; no service speaks of it
 

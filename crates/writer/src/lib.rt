@@ -2,7 +2,6 @@
 #![tactic(auto)]
 
 ghost use Rattle.std.specs.Prelude.{◌≡◌, length};
-ghost use Rattle.answer.specs.Lent.{came};
 ghost use Rattle.answer.specs.Refusal.{because};
 ghost use Rattle.answer.specs.declared.Verdict.TheVariants as verdict;
 ghost use Rattle.pageblock.specs.Body.{handed};
@@ -57,7 +56,7 @@ impl Writer {
     // The first block at the buffer's start, and a state with no pages. Of the state that comes in nothing is used; it is handed back where
     // the step is refused.
     pub fn open(self, d: &mut [u8]) -> Stepped
-        ensures { StepsIn (open_of (length (came d))) self d result }
+        ensures { StepsIn (open_of (length d.old)) self d result }
     {
         if d.len() < FIRST_BLOCK {
             return refused(self, ROOM);
@@ -85,7 +84,7 @@ impl Writer {
         xs: &[u64],
         ys: &[u64],
     ) -> Stepped
-        ensures { StepsIn (page_step_of self (length (came d)) (handed registers types counts lens xs ys)) self d result }
+        ensures { StepsIn (page_step_of self (length d.old) (handed registers types counts lens xs ys)) self d result }
     {
         let position = self.position;
         let pages = self.pages;
@@ -128,7 +127,7 @@ impl Writer {
 
     // The end block at the position.
     pub fn close(self, d: &mut [u8]) -> Stepped
-        ensures { StepsIn (close_of self (length (came d))) self d result }
+        ensures { StepsIn (close_of self (length d.old)) self d result }
     {
         let position = self.position;
         let pages = self.pages;

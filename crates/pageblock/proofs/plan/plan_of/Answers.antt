@@ -1,0 +1,41 @@
+-- `pageblock::plan::plan_of` lays the parts out and measures the columns: all of it is small. Assumes nothing.
+use mathlib.Core.Path.{refl, ap}
+use native.Mathlib.Omega.{arith}
+use Rattle.frame.specs.declared.layout.Layout.{Layout}
+use Rattle.frame.proofs.Layouts.{columns-le}
+use Rattle.pageblock.proofs.Sizes.{sized, column-most}
+use Rattle.pageblock.proofs.plan.plan_of.Goals as goal
+
+pub overflow_add-len : goal.overflow_add-len
+overflow_add-len c =
+    let a = c.args in
+    let q = c.requires in
+    omega (
+      arith,
+      ap (λ (l : Layout). l.columns) c.layout_of-layout.ensures,
+      columns-le a.edition a.g a.p q.0 q.1,
+      column-most a.xs.now q.2,
+      column-most a.ys.now q.3,
+      c.fit-x.ensures.1,
+      c.fit-y.ensures.1,
+    )
+
+pub overflow_add-len-2 : goal.overflow_add-len-2
+overflow_add-len-2 c =
+    let a = c.args in
+    let q = c.requires in
+    omega (
+      arith,
+      ap (λ (l : Layout). l.columns) c.layout_of-layout.ensures,
+      columns-le a.edition a.g a.p q.0 q.1,
+      column-most a.xs.now q.2,
+      column-most a.ys.now q.3,
+      c.fit-x.ensures.1,
+      c.fit-y.ensures.1,
+    )
+
+pub returns : goal.returns
+returns c =
+    let x = c.fit-x.ensures in
+    let y = c.fit-y.ensures in
+    record { edition = refl; layout = c.layout_of-layout.ensures; columns = (sized _ _ x.0 x.1, sized _ _ y.0 y.1); whole = refl }
