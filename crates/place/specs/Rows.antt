@@ -1,6 +1,6 @@
 -- The rows for a list of places, in any order and with repeats: "frame, 17, 2". The pages' contents are not judged. Assumes nothing.
 use Rattle.std.specs.Prelude.{ℕ, ◌&&◌, List, [], ◌∷◌, map, length, leb}
-use Rattle.std.specs.Borrow.{Bor}
+use Rattle.std.specs.Borrow.{Bor, MutBor}
 use Rattle.answer.specs.Table as table
 use Rattle.answer.specs.Refusal.{because}
 use Rattle.answer.specs.Outcome.{Out, ok, need, on}
@@ -36,7 +36,7 @@ rows_of s places registers types =
     need (leb (length places) registers && leb (length places) types) (because table.room) (ok rs))
 
 -- the same, by the slices: the file, the places, and the two rooms
-abbrev pub rows_within : Bor (List ℕ) → Bor (List ℕ) → Bor (List ℕ) → Bor (List ℕ) → Out (List Row)
+abbrev pub rows_within : Bor (List ℕ) → Bor (List ℕ) → MutBor (List ℕ) → MutBor (List ℕ) → Out (List Row)
 rows_within s places registers types = rows_of s.now places.now (length registers.now) (length types.now)
 
 -- their registers

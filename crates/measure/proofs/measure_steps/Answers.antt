@@ -29,12 +29,11 @@ loop-left-preserved c =
     let loop-test = c.loop-left-test in
     let st = c in
     let l = c.loop-left in
-    let n = c.step-a in
-    (
+    let n = c.step-a in (
       omega arith,
-      omega (arith, c.wrapping_add_u64-sum.ensures),
+      omega (arith, c.wrapping_add_u64-sum.ensures.value),
       l.invariant.2 ∙ sum_more st.args.s.now st.args.n l.left l.p l.sum n.result n.ensures c.in-Value.v c.in-Value.q loop-test.true c.in-Value.is
-          ∙ ap (λ (x : ℕ). (x + sum_of (given st.args.s.now st.args.n (l.left - 1) c.in-Value.q)) % 2 ^ 64) (sym c.wrapping_add_u64-sum.ensures),
+          ∙ ap (λ (x : ℕ). (x + sum_of (given st.args.s.now st.args.n (l.left - 1) c.in-Value.q)) % 2 ^ 64) (sym c.wrapping_add_u64-sum.ensures.value),
     )
 
 pub returns : goal.returns

@@ -37,7 +37,7 @@ overflow_add-size c =
     let a = c.args in
     let i = handed_in a.registers a.types a.counts a.lens a.xs a.ys in
     let e : judged Holds ≡ page_rules i = rw c.in_default.is at c.page_rules.ensures in
-    let g = (c.plan_of-plan.ensures.edition, (c.plan_of-plan.ensures.layout, (c.plan_of-plan.ensures.columns, c.plan_of-plan.ensures.whole))) in
+    let g = c.plan_of-plan.ensures in
     let n = planned i a.edition _ (page-passed a.edition i e) g.edition g.layout g.columns.0 g.columns.1 g.whole in
     omega (arith, plan-few i _ n)
 
@@ -46,7 +46,7 @@ returns-then-room-size c =
     let a = c.args in
     let i = handed_in a.registers a.types a.counts a.lens a.xs a.ys in
     let e : judged Holds ≡ page_rules i = rw c.in_default.is at c.page_rules.ensures in
-    let g = (c.plan_of-plan.ensures.edition, (c.plan_of-plan.ensures.layout, (c.plan_of-plan.ensures.columns, c.plan_of-plan.ensures.whole))) in
+    let g = c.plan_of-plan.ensures in
     let n = planned i a.edition _ (page-passed a.edition i e) g.edition g.layout g.columns.0 g.columns.1 g.whole in
     let l : length (body_of a.edition i) ≡ c.plan_of-plan.result.len = sym (plan-whole i a.edition _ n g.edition) in
     rw c.because.ensures (fills-refused (because table.room) (block_room a.edition i (length a.room.now) e (omega (arith, length-page a.edition i, l, c.if-room-size.true))))
@@ -56,7 +56,7 @@ put_page-requires c =
     let a = c.args in
     let i = handed_in a.registers a.types a.counts a.lens a.xs a.ys in
     let e : judged Holds ≡ page_rules i = rw c.in_default.is at c.page_rules.ensures in
-    let g = (c.plan_of-plan.ensures.edition, (c.plan_of-plan.ensures.layout, (c.plan_of-plan.ensures.columns, c.plan_of-plan.ensures.whole))) in
+    let g = c.plan_of-plan.ensures in
     let n = planned i a.edition _ (page-passed a.edition i e) g.edition g.layout g.columns.0 g.columns.1 g.whole in
     (n, c.if-room-size.false)
 
@@ -65,7 +65,7 @@ returns c =
     let a = c.args in
     let i = handed_in a.registers a.types a.counts a.lens a.xs a.ys in
     let e : judged Holds ≡ page_rules i = rw c.in_default.is at c.page_rules.ensures in
-    let g = (c.plan_of-plan.ensures.edition, (c.plan_of-plan.ensures.layout, (c.plan_of-plan.ensures.columns, c.plan_of-plan.ensures.whole))) in
+    let g = c.plan_of-plan.ensures in
     let n = planned i a.edition _ (page-passed a.edition i e) g.edition g.layout g.columns.0 g.columns.1 g.whole in
     let l : length (body_of a.edition i) ≡ c.plan_of-plan.result.len = sym (plan-whole i a.edition _ n g.edition) in
     fills-ok (page_bytes a.edition i) _ _ (block-ok a.edition i (length a.room.now) e (omega (arith, length-page a.edition i, l, c.if-room-size.false)))

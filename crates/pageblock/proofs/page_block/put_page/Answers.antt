@@ -12,7 +12,7 @@ put_counts-requires c =
     let q = c.requires in
     let i = handed_in a.registers a.types a.counts a.lens a.xs a.ys in
     let ed = a.plan.edition in
-    omega (arith, q.1, q.0.whole, length-body ed i, length-tables (each ed) a.registers.now a.types.now a.counts.now a.lens.now, c.put_head.auto.0)
+    omega (arith, q.1, q.0.whole, length-body ed i, length-tables (each ed) a.registers.now a.types.now a.counts.now a.lens.now, c.put_head.auto.d)
 
 pub put_bounds-requires : goal.put_bounds-requires
 put_bounds-requires c =
@@ -20,7 +20,7 @@ put_bounds-requires c =
     let q = c.requires in
     let i = handed_in a.registers a.types a.counts a.lens a.xs a.ys in
     let ed = a.plan.edition in
-    omega (arith, q.1, q.0.whole, length-body ed i, length-tables (each ed) a.registers.now a.types.now a.counts.now a.lens.now, c.put_head.auto.0, c.put_counts.auto.0)
+    omega (arith, q.1, q.0.whole, length-body ed i, length-tables (each ed) a.registers.now a.types.now a.counts.now a.lens.now, c.put_head.auto.d, c.put_counts.auto.d)
 
 pub put_tables-requires : goal.put_tables-requires
 put_tables-requires c =
@@ -29,7 +29,7 @@ put_tables-requires c =
     let i = handed_in a.registers a.types a.counts a.lens a.xs a.ys in
     let ed = a.plan.edition in
     let l = laid ed i a.plan.layout q.0.layout q.0.even in
-    (l, omega (arith, q.1, q.0.whole, length-body ed i, length-tables (each ed) a.registers.now a.types.now a.counts.now a.lens.now, sizes_at ed i a.plan.layout q.0.layout q.0.even, c.put_head.auto.0, c.put_counts.auto.0, c.put_bounds.auto.0))
+    (l, omega (arith, q.1, q.0.whole, length-body ed i, length-tables (each ed) a.registers.now a.types.now a.counts.now a.lens.now, sizes_at ed i a.plan.layout q.0.layout q.0.even, c.put_head.auto.d, c.put_counts.auto.d, c.put_bounds.auto.d))
 
 pub overflow_add-plan : goal.overflow_add-plan
 overflow_add-plan c =
@@ -46,10 +46,10 @@ put_columns-requires c =
     let i = handed_in a.registers a.types a.counts a.lens a.xs a.ys in
     let ed = a.plan.edition in
     let s = sizes_at ed i a.plan.layout q.0.layout q.0.even in
-    (omega (arith, q.1, s, q.0.whole, length-body ed i, length-tables (each ed) a.registers.now a.types.now a.counts.now a.lens.now, q.0.x.size, q.0.y.size, c.put_head.auto.0, c.put_counts.auto.0, c.put_bounds.auto.0, c.put_tables.auto.0), q.0.vertices, q.0.x, q.0.y)
+    (omega (arith, q.1, s, q.0.whole, length-body ed i, length-tables (each ed) a.registers.now a.types.now a.counts.now a.lens.now, q.0.x.size, q.0.y.size, c.put_head.auto.d, c.put_counts.auto.d, c.put_bounds.auto.d, c.put_tables.auto.d), q.0.vertices, q.0.x, q.0.y)
 
 pub shape_of-d : goal.shape_of-d
-shape_of-d c = omega (arith, c.put_head.auto.0, c.put_counts.auto.0, c.put_bounds.auto.0, c.put_tables.auto.0, c.put_columns.auto.0)
+shape_of-d c = omega (arith, c.put_head.auto.d, c.put_counts.auto.d, c.put_bounds.auto.d, c.put_tables.auto.d, c.put_columns.auto.d)
 
 pub returns : goal.returns
 returns c =

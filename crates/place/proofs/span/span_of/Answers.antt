@@ -23,8 +23,12 @@ pub overflow_cast-part_end : goal.overflow_cast-part_end
 overflow_cast-part_end c = omega (arith, c.shared_slice_known-3-1.given c.args.i)
 
 pub overflow_add-part_end : goal.overflow_add-part_end
-overflow_add-part_end c = omega (arith, (let with_it_is : c.total-part.result + get_or c.args.counts.now c.args.i 0 ≤ length c.args.lens.now = let a = c.args in
-    omega (arith, c.total-part.ensures, total-suc a.counts.now a.i c.requires.i_in_bounds, total-take-le (suc a.i) a.counts.now, c.requires.counts_value) in with_it_is), c.requires.lens_len_bound.0)
+overflow_add-part_end c = omega (
+  arith,
+  (let with_it_is : c.total-part.result + get_or c.args.counts.now c.args.i 0 ≤ length c.args.lens.now = let a = c.args in
+      omega (arith, c.total-part.ensures, total-suc a.counts.now a.i c.requires.i_in_bounds, total-take-le (suc a.i) a.counts.now, c.requires.counts_value) in with_it_is),
+  c.requires.lens_len_bound.0,
+)
 
 pub slice_bounds-total-end-2 : goal.slice_bounds-total-end-2
 slice_bounds-total-end-2 c = sym (length-take-le c.total-part.result c.args.lens.now ((let before-it_is : c.total-part.result ≤ length c.args.lens.now = let args = c.args in
