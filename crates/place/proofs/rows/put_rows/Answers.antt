@@ -69,7 +69,7 @@ returns-in-Refused c =
     let args = c.args in
     let loop = c.loop-i in
     let loop-test = c.loop-i-test in
-    let both = listing-never args.s.now args.places.now args.registers.now args.types.now loop.c loop.i loop.registers loop.types loop.invariant loop-test.true _ c.seek.ensures c.in-Refused.w c.in-Refused.is in record { registers = both.0; types = both.1 }
+    record { registers = listing-never args.s.now args.places.now args.registers.now args.types.now loop.c loop.i loop.registers loop.types loop.invariant loop-test.true _ c.seek.ensures c.in-Refused.w c.in-Refused.is; types = listing-never args.s.now args.places.now args.registers.now args.types.now loop.c loop.i loop.registers loop.types loop.invariant loop-test.true _ c.seek.ensures c.in-Refused.w c.in-Refused.is }
 
 pub shape_of-registers : goal.shape_of-registers
 shape_of-registers c = c.loop-i.invariant.registers_long

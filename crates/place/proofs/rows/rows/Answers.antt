@@ -13,7 +13,7 @@ returns-then-not-all_there c =
     let args = c.args in
     let frame = c.frame in
     let f = sound-said args.s.now _ frame.ensures c.in-Sound.t c.in-Sound.is in
-    let both = rw c.because.ensures (both-refused _ (rows-refused args.s.now args.places.now (length args.registers.now) (length args.types.now) _ (no_rows args.s.now args.places.now f.0 c.in-Sound.t f.1 f.2 (sym c.all_there.ensures ∙ not-true _ c.if-not-all_there.true-raw)))) in record { registers = both.0; types = both.1 }
+    let both = both-refused _ (rows-refused args.s.now args.places.now (length args.registers.now) (length args.types.now) _ (no_rows args.s.now args.places.now f.0 c.in-Sound.t f.1 f.2 (sym c.all_there.ensures ∙ not-true _ c.if-not-all_there.true-raw))) in record { registers = rw c.because.ensures both.0; types = rw c.because.ensures both.1 }
 
 pub returns-then-registers-places : goal.returns-then-registers-places
 returns-then-registers-places c =
@@ -21,7 +21,7 @@ returns-then-registers-places c =
     let frame = c.frame in
     let f = sound-said args.s.now _ frame.ensures c.in-Sound.t c.in-Sound.is in
     let r = all-rows args.s.now args.places.now f.0 c.in-Sound.t f.1 f.2 (sym c.all_there.ensures ∙ not-false _ c.if-not-all_there.false-raw) in
-    let both = rw c.because-then-registers-places.ensures (both-refused _ (room-registers args.s.now args.places.now (length args.registers.now) (length args.types.now) r.0 r.1 c.if-registers-places.true)) in record { registers = both.0; types = both.1 }
+    let both = both-refused _ (room-registers args.s.now args.places.now (length args.registers.now) (length args.types.now) r.0 r.1 c.if-registers-places.true) in record { registers = rw c.because-then-registers-places.ensures both.0; types = rw c.because-then-registers-places.ensures both.1 }
 
 pub returns-then-types-places : goal.returns-then-types-places
 returns-then-types-places c =
@@ -29,7 +29,7 @@ returns-then-types-places c =
     let frame = c.frame in
     let f = sound-said args.s.now _ frame.ensures c.in-Sound.t c.in-Sound.is in
     let r = all-rows args.s.now args.places.now f.0 c.in-Sound.t f.1 f.2 (sym c.all_there.ensures ∙ not-false _ c.if-not-all_there.false-raw) in
-    let both = rw c.because-then-types-places.ensures (both-refused _ (room-types args.s.now args.places.now (length args.registers.now) (length args.types.now) r.0 r.1 c.if-registers-places.false c.if-types-places.true)) in record { registers = both.0; types = both.1 }
+    let both = both-refused _ (room-types args.s.now args.places.now (length args.registers.now) (length args.types.now) r.0 r.1 c.if-registers-places.false c.if-types-places.true) in record { registers = rw c.because-then-types-places.ensures both.0; types = rw c.because-then-types-places.ensures both.1 }
 
 pub put_rows-requires : goal.put_rows-requires
 put_rows-requires c =
@@ -51,4 +51,4 @@ returns-else-types-places c =
     let frame = c.frame in
     let f = sound-said args.s.now _ frame.ensures c.in-Sound.t c.in-Sound.is in
     let r = all-rows args.s.now args.places.now f.0 c.in-Sound.t f.1 f.2 (sym c.all_there.ensures ∙ not-false _ c.if-not-all_there.false-raw) in
-    let both = rw (room-both args.s.now args.places.now (length args.registers.now) (length args.types.now) r.0 r.1 c.if-registers-places.false c.if-types-places.false) (c.put_rows.ensures.registers, c.put_rows.ensures.types) in record { registers = both.0; types = both.1 }
+    record { registers = rw (room-both args.s.now args.places.now (length args.registers.now) (length args.types.now) r.0 r.1 c.if-registers-places.false c.if-types-places.false) c.put_rows.ensures.registers; types = rw (room-both args.s.now args.places.now (length args.registers.now) (length args.types.now) r.0 r.1 c.if-registers-places.false c.if-types-places.false) c.put_rows.ensures.types }
