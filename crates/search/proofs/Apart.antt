@@ -105,6 +105,8 @@ next-head s c q qs w =
 pub met-same : (ps qs : List Page) (a : Ask) (k n : ℕ) (s t : List ℕ) (c d : Cursor) → Ahead s c ps → Ahead t d qs → d.edition ≡ c.edition → Alike a ps qs
     → met_of a k n ps ≡ met_of a k n qs
 met-same [] [] a k n s t c d x y e none = refl
+met-same [] (q ∷ qs) a k n s t c d x y e w = elim w [ ]
+met-same (p ∷ ps) [] a k n s t c d x y e w = elim w [ ]
 met-same (p ∷ ps) (q ∷ qs) a k n s t c d x y e (more w r) =
     let u = next-head s c p ps x in
     let v = next-head t d q qs y in

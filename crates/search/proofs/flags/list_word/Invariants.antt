@@ -1,0 +1,10 @@
+-- `search::flags::list_word` puts bit after bit: those of what is left of the word are still to be put. Assumes nothing.
+use native.Mathlib.Omega.{arith}
+use Rattle.search.proofs.Listing.{Wording, wording-none, wording-here, wording-room, wording-more, wording-done, half-less}
+use Rattle.search.proofs.flags.list_word.Given as goal
+
+abbrev pub invariant-loop-y : goal.invariant-loop-y
+invariant-loop-y l = Wording l.x l.n l.initial.out l.at l.y l.place l.out l.k
+
+abbrev pub decreases-loop-y : goal.decreases-loop-y
+decreases-loop-y l = l.y
