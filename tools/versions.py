@@ -1,9 +1,13 @@
-"""The wrong versions in crates/NAME/must-fail and crates/NAME/wrong: what an edit's file says, and whether a prover's log shows it.
+"""The wrong versions in crates/NAME/must-fail and crates/NAME/wrong: what an edit's file says, and whether a check shows it.
 
-A version's first line says what is wrong with it. `refused: WHERE FACT` names the fact that no longer holds: FACT stands in proofs/WHERE.antt, or in proofs/WHERE/Proof.antt
-where WHERE is a function. Then, as for `rt must-fail`, one or more replacements: a line `file:` holds for the pairs of lines `old:` and `new:` after it.
+A version's first line says what is wrong with it. `refused: WHERE FACT` names the fact that no longer holds: FACT stands in proofs/WHERE.antt, or is a goal of the function WHERE, which
+proofs/WHERE/Answers.antt (or Proof.antt) answers, or which the prover finds by itself. Then, as for `rt must-fail`, one or more replacements: a line `file:` holds for the pairs of lines
+`old:` and `new:` after it.
 
-A file has one version, and its name; or several, which one check tries together, each after a line `version: NAME`. Those must differ in the bodies of different functions.
+A file has one version, and its name; or several, which `rt ci` tries together, each after a line `version: NAME`. Those must differ in the bodies of different functions. A step of a proof
+has its name from the code: where a version changes such a name, a further pair may turn it in the function's own proof, which is then refused for what is wrong and not for the name.
+
+A check is read as `rt check --allow-holes` prints it: there each function sees of others their contracts, also of those that are refused.
 """
 import collections
 import os
@@ -13,6 +17,11 @@ ROOT = os.path.dirname(os.path.dirname(os.path.abspath(__file__)))
 
 Version = collections.namedtuple("Version", "crate folder edit label wrong where fact changes")
 Change = collections.namedtuple("Change", "file old new")
+# What the prover refused for itself: where, which fact, and whether what it says is only that a name is not there, as where a proof names what an edit took away.
+Refused = collections.namedtuple("Refused", "where fact only_names")
+
+# Where a proof's text names what is not there.
+NAMES = re.compile(r"is not in scope|has no field|has no `|is no name|that can be named")
 
 
 def read(path):
@@ -29,9 +38,9 @@ def write(path, text):
 
 
 def imports():
-    """The line of each crate in crates.txt, in that order."""
+    """The line of each crate in crates.txt, in that order, by its name."""
     lines = [line.split("#")[0].strip() for line in read(f"{ROOT}/crates.txt").split("\n")]
-    return {line.split(":")[0].strip(): line for line in lines if ":" in line}
+    return {line.split(":")[0].split()[0]: line for line in lines if ":" in line}
 
 
 def version(crate, folder, edit, label, lines):
@@ -74,10 +83,10 @@ def applied(one, crates):
     held = {}
     for change in one.changes:
         path = f"{crates}/{one.crate}/{change.file}"
-        text = read(path)
-        held.setdefault(path, text)
+        text = read(path) if os.path.isfile(path) else ""
         if not change.old or text.count(change.old) != 1:
             return held, False
+        held.setdefault(path, text)
         write(path, text.replace(change.old, change.new))
     return held, bool(one.changes)
 
@@ -85,19 +94,32 @@ def applied(one, crates):
 def body_around(text, old):
     """The name of the function in whose body some text stands; nothing where it stands in none."""
     before, found, _ = text.partition(old)
-    heads = list(re.finditer(r"^ *(?:pub(?:\(crate\))? )?(?:extern \"C\" )?fn (\w+)", before, re.M))
-    opened = re.search(r"^( *){\n", before[heads[-1].start() :], re.M) if heads else None
-    if not found or not opened:
+    heads = list(re.finditer(r"^( *)(?:pub(?:\([^)]*\))? )?(?:(?:const|unsafe) )*(?:extern \"C\" )?fn (\w+)", before, re.M))
+    if not found or not heads:
+        return ""
+    # The body opens on a line as far in as the head, which clauses are not, and closes on the next such line.
+    indent, name = heads[-1].groups()
+    opened = re.search(rf"^{indent}(?! )(?:.* )?\{{\n", before[heads[-1].start() :], re.M)
+    if not opened:
         return ""
     inside = before[heads[-1].start() + opened.end() :]
-    return "" if re.search(rf"^{opened.group(1)}}}$", inside, re.M) else heads[-1].group(1)
+    return "" if re.search(rf"^{indent}}}$", inside, re.M) else name
+
+
+def function_around(one, change):
+    """The function in whose body, or in whose own proof, a change is made; nothing where it is made elsewhere."""
+    own = re.fullmatch(r"proofs/(\S+)/(?:Answers|Invariants|Proof)\.antt", change.file)
+    if own:
+        return own[1].split("/")[-1] if own[1] == one.where else ""
+    path = f"{ROOT}/crates/{one.crate}/{change.file}"
+    return body_around(read(path), change.old) if change.file.startswith("src/") and os.path.isfile(path) else ""
 
 
 def function_of(one):
     """The function in whose body alone a version differs, if its fact is one of that function's own proof; else nothing. Other functions see the contract alone, so that such
     versions of different functions have nothing to do with each other."""
-    names = {body_around(read(f"{ROOT}/crates/{one.crate}/{change.file}"), change.old) for change in one.changes}
-    return one.where if names == {one.where.split("/")[-1]} else ""
+    names = {function_around(one, change) for change in one.changes}
+    return one.where if names == {one.where.split("/")[-1]} and any(change.file.startswith("src/") for change in one.changes) else ""
 
 
 def apart(check):
@@ -107,20 +129,32 @@ def apart(check):
 
 
 def own(said):
-    """What the prover refused for itself, and not because something else was refused before it: where and which fact, in its own order."""
-    found = re.findall(r"^\S*/proofs/(\S+?)(?:/Proof)?\.antt:[0-9]+:[0-9]+: error: `([^`]*)`: (?!`[^`]*` was not admitted)", said, re.M)
-    open_ = re.findall(r"^fn \w+::(\S+): no proof: .*`search` does not close `([^`]*)`", said, re.M)
-    return found + [(name.replace("::", "/"), fact) for name, fact in open_]
+    """What the prover refused for itself, and not because something else was refused before it, in its own order."""
+    found, explained = [], set()
+    for where, fact, why in re.findall(r"^(?:\./)?proofs/(\S+?)(?:/(?:Answers|Invariants|Proof))?\.antt:[0-9]+:[0-9]+: error: (?:`([^`]*)`: )?(.*)", said, re.M):
+        if re.match(r"`[^`]*` was not admitted|[0-9]+ declarations? that depends? on ", why):
+            continue
+        found.append(Refused(where, fact, bool(NAMES.search(why))))
+        explained.add(where)
+    for name, verdict, why in re.findall(r"^fn (\S+): (no proof|not proved)\b(.*)$", said, re.M):
+        where = name.partition("::")[2].replace("::", "/")
+        answers = re.search(r"expected answers in (?:\./)?proofs/(\S+)/Answers\.antt; `search` did not prove ((?:`[^`]*`(?:, | and )?)+)", why)
+        if answers:
+            found += [Refused(answers[1], fact, False) for fact in re.findall(r"`([^`]*)`", answers[2])]
+        elif where not in explained and not re.search(r"; it stands on `|[:;] it calls `", why):
+            # Nothing says which fact it is.
+            found.append(Refused(where, "", False))
+    return found
 
 
 def beside(said, check):
     """Where the prover refused something for itself outside the functions in whose bodies the versions of a check differ; nothing where one differs elsewhere."""
     functions = {function_of(one) for one in check}
-    return set() if "" in functions else {where for where, _ in own(said)} - functions
+    return set() if "" in functions else {refused.where for refused in own(said)} - functions
 
 
-def shows(said, one):
-    """Whether the version's fact is the first that the prover refused for itself: in its function, where that function's body alone differs; else of all."""
+def first_refused(said, one):
+    """The first that the prover refused for itself, of all or, where a function's body alone differs, in that function; nothing where there is none. A version is shown where that is its
+    fact, and is refused not only since a name is not there."""
     function = function_of(one)
-    refused = [(where, fact) for where, fact in own(said) if not function or where == function]
-    return refused[:1] == [(one.where, one.fact)]
+    return next((each for each in own(said) if not function or each.where == function), None)
