@@ -6,6 +6,14 @@ use Rattle.input.proofs.Steps.{came_more, came_none, came_kept}
 use borrow.Rule.Slice.PartMut.{put_mid}
 use Rattle.input.proofs.read_input.Goals as goal
 
+pub loop-done-preserved : goal.loop-done-preserved
+loop-done-preserved g c =
+    let l = c.loop-done in record {
+      same_room = search rules;
+      fits = search rules;
+      so_far = came_more _ _ _ l.done (length l.room - l.done) c.in-Ok.more l.room c.read.new.buf l.invariant.fits c.in-Ok.ensures.bound.0 l.invariant.so_far c.in-Ok.ensures.bytes.0;
+    }
+
 pub returns-then-more-eq0-clause-within : goal.returns-then-more-eq0-clause-within
 unfolding Within
 returns-then-more-eq0-clause-within g c =
@@ -19,14 +27,6 @@ returns-then-more-eq0-clause-came g c =
     let l = c.loop-done in
     let last = came_none _ _ _ l.done (length l.room - l.done) c.in-Ok.more l.room c.read.new.buf l.invariant.fits c.if-more-eq0.true l.invariant.so_far c.in-Ok.ensures.bytes.0 in
     (last, λ _. c.in-Ok.ensures.bytes.1 c.if-more-eq0.true (search rules))
-
-pub loop-done-preserved : goal.loop-done-preserved
-loop-done-preserved g c =
-    let l = c.loop-done in record {
-      same_room = search rules;
-      fits = search rules;
-      so_far = came_more _ _ _ l.done (length l.room - l.done) c.in-Ok.more l.room c.read.new.buf l.invariant.fits c.in-Ok.ensures.bound.0 l.invariant.so_far c.in-Ok.ensures.bytes.0;
-    }
 
 pub returns-in-Err-clause-within : goal.returns-in-Err-clause-within
 unfolding Within
