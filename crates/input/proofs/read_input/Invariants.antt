@@ -1,5 +1,5 @@
 -- `input::read_input` stays within the room that it is lent, which keeps its length, and counts the bytes that came. Nothing is assumed.
-use Rattle.std.proofs.Common.{length, take, ◌-◌, ◌≡◌, ℕ, ◌≤◌}
+use Rattle.std.proofs.Common.{length, take, ◌-◌, ◌≡◌, ◌≤◌}
 use Rattle.std.specs.Io.KnownBytes.{Consumes}
 use Rattle.input.proofs.read_input.Given as goal
 
