@@ -20,10 +20,12 @@ mod service;
 mod writing;
 
 use le::number::u32_at;
-use libc::STDIN_FILENO;
 use record::part;
 use saying::malformed;
 use service::served;
+
+// Standard input, by its number.
+const STDIN_FILENO: i32 = 0;
 
 // Reads one case and serves it. Whether another may follow: not at the end of the input, and not after a malformed record.
 fn turn(input: &mut [u8]) -> bool {

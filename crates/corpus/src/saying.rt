@@ -1,6 +1,7 @@
 // Words on standard output, and the start and the end of a line. The end answers whether another case may follow: that it was written, and that the case was well
 // formed.
-use libc::STDOUT_FILENO;
+// Standard output, by its number.
+const STDOUT_FILENO: i32 = 1;
 
 // Words as they stand: whether all was written.
 pub(crate) fn say(words: &[u8]) -> bool {

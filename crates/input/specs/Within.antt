@@ -1,5 +1,7 @@
--- What reading says of the room that it was lent: nothing of the bytes, which are whatever the input has. Assumes nothing.
-use Rattle.std.specs.Prelude.{ℕ, List}
+-- What reading says of the room that it was lent, and of the reader. Assumes nothing.
+use Rattle.std.specs.Prelude.{ℕ, ◌<◌, List, length, take}
+use Rattle.std.specs.declared.option.Option.{Option}
+use Rattle.std.specs.Io.KnownBytes.{Consumes, IsAtEnd}
 use Rattle.io.specs.Counts.{IsPrefixLen}
 use Rattle.input.specs.declared.Input.{Input}
 use Rattle.input.specs.declared.Input.TheVariants.{Is, Broken}
@@ -7,4 +9,9 @@ use Rattle.input.specs.declared.Input.TheVariants.{Is, Broken}
 -- so many bytes lie within the room
 unfoldable pub Within : Input → List ℕ → Type 0
 Within (Is n) room = IsPrefixLen n room
-Within Broken room = Unit {0}
+Within (Broken e) room = Unit {0}
+
+-- where the reader says which bytes it has: those that came stand at the start of the room, in their order; and where the room is not full, there are no more
+unfoldable pub Came : Option (List ℕ) → Option (List ℕ) → Input → List ℕ → Type 0
+Came before after (Is n) room = Consumes before after (take n room) × (n < length room → IsAtEnd after)
+Came before after (Broken e) room = (n : ℕ) × Consumes before after (take n room)

@@ -2,32 +2,33 @@
 // stick that breaks is not a file that was cut short.
 #![tactic(auto)]
 
-ghost use Rattle.input.specs.Within.{Within};
+ghost use Rattle.input.specs.Within.{Within, Came};
 
-use libc::STDIN_FILENO;
+use std::io::{Error, Read};
 
-// What was read: so many bytes at the start of the room, all that there were or the room full; or a read failed, and errno says why.
+// What was read: so many bytes at the start of the room, all that there were or the room full; or a read failed, and the error says why.
 #[derive(Clone, Copy)]
 pub enum Input {
     Is(usize),
-    Broken,
+    Broken(Error),
 }
 
 // Reads until the room is full, the input ends or a read fails.
-pub fn read_input(room: &mut [u8]) -> Input
-    ensures { Within result room.new }
+pub fn read_input<R: Read>(source: &mut R, room: &mut [u8]) -> Input
+    ensures within { Within result room.new }
+    ensures came { Came (R.remaining source.old) (R.remaining source.new) result room.new }
 {
     let mut done: usize = 0;
     while done < room.len() {
-        let got = libc::read(STDIN_FILENO, &mut room[done..]);
-        if got < 0 {
-            return Input::Broken;
+        match source.read(&mut room[done..]) {
+            Ok(more) => {
+                if more == 0 {
+                    return Input::Is(done);
+                }
+                done += more;
+            }
+            Err(e) => return Input::Broken(e),
         }
-        let more = io::count(got, &room[done..]);
-        if more == 0 {
-            return Input::Is(done);
-        }
-        done += more;
     }
     Input::Is(done)
 }

@@ -8,16 +8,17 @@ mod rows;
 
 use input::{Input, read_input};
 use print::print;
+use told::fail;
 
 // Reads one byte more than the longest query block and the largest file, to see whether there is more.
-fn main() {
+fn main(rt: HostRuntime) {
     let mut bytes = [0u8; 40999];
-    match read_input(&mut bytes) {
+    match read_input(&mut rt.stdin(), &mut bytes) {
         Input::Is(n) => {
-            print(&bytes[..n]);
+            print(&rt, &bytes[..n]);
         }
-        Input::Broken => {
-            os::fail(b"list: standard input");
+        Input::Broken(why) => {
+            fail(&rt, "list: standard input", why);
         }
     }
 }

@@ -10,8 +10,9 @@ ghost use Rattle.list.specs.Printed.{printed_of};
 use crate::listing::{Listed, list_input};
 use crate::rows::put_rows;
 use answer::Refusal;
-use libc::STDOUT_FILENO;
+use std::io::{Eprint, Print};
 use text::lines::{put_hits, put_refused};
+use told::fail;
 
 // How many bytes of what is printed of an input have been handed on.
 #[derive(Clone, Copy)]
@@ -24,7 +25,13 @@ const STRETCH: usize = 512;
 
 // Writes a stretch, or says on standard error why it could not. The answer is whether all bytes so far were taken: once some were not,
 // nothing more is written, so that no row is missing before the last line.
-fn write(input: &[u8], stretch: &[u8], taken: bool, k: &mut usize) -> bool
+fn write(
+    rt: &(impl Print + Eprint),
+    input: &[u8],
+    stretch: &[u8],
+    taken: bool,
+    k: &mut usize,
+) -> bool
     requires { Stretch (printed_of input.now) k.old stretch.now }
     ensures moved { k.new ≡ k.old + length stretch.now }
     ensures stays { taken ≡ false → result ≡ false }
@@ -33,22 +40,24 @@ fn write(input: &[u8], stretch: &[u8], taken: bool, k: &mut usize) -> bool
     if !taken {
         return false;
     }
-    if io::write_all(STDOUT_FILENO, stretch) {
-        return true;
+    match rt.write_all(stretch) {
+        Ok(()) => true,
+        Err(why) => {
+            fail(rt, "list: standard output", why);
+            false
+        }
     }
-    os::fail(b"list: standard output");
-    false
 }
 
 // The refused line.
-fn say_refused(input: &[u8], w: Refusal, k: &mut usize)
+fn say_refused(rt: &(impl Print + Eprint), input: &[u8], w: Refusal, k: &mut usize)
     requires k_value { k.old ≡ 0 }
     requires input_value { listing_of input.now ≡ refused w }
     ensures { k.new ≡ length (printed_of input.now) }
 {
     let mut out = [0u8; 96];
     let n = put_refused(&mut out, 0, w);
-    write(input, &out[..n], true, k);
+    write(rt, input, &out[..n], true, k);
 }
 
 // Where a stretch ends that begins at row i of n.
@@ -64,6 +73,7 @@ fn stretch_end(i: usize, n: usize) -> usize
 
 // The rows, stretch by stretch, and the last line.
 fn say_rows(
+    rt: &(impl Print + Eprint),
     input: &[u8],
     places: &[u32],
     registers: &[u32],
@@ -84,15 +94,15 @@ fn say_rows(
     while i < hits {
         let e = stretch_end(i, hits);
         let n = put_rows(&mut out, &places[i..e], &registers[i..e], &types[i..e]);
-        taken = write(input, &out[..n], taken, k);
+        taken = write(rt, input, &out[..n], taken, k);
         i = e;
     }
     let n = put_hits(&mut out, 0, hits, shapes);
-    write(input, &out[..n], taken, k);
+    write(rt, input, &out[..n], taken, k);
 }
 
 // Prints what an input lists, any bytes: all of it.
-pub fn print(input: &[u8]) -> Printed
+pub fn print(rt: &(impl Print + Eprint), input: &[u8]) -> Printed
     ensures { result.k ≡ length (printed_of input.now) }
 {
     let mut p = Printed { k: 0 };
@@ -102,6 +112,7 @@ pub fn print(input: &[u8]) -> Printed
     match list_input(input, &mut places, &mut registers, &mut types) {
         Listed::Rows(hits, shapes) => {
             say_rows(
+                rt,
                 input,
                 &places[..hits],
                 &registers[..hits],
@@ -111,7 +122,7 @@ pub fn print(input: &[u8]) -> Printed
             );
         }
         Listed::Refused(w) => {
-            say_refused(input, w, &mut p.k);
+            say_refused(rt, input, w, &mut p.k);
         }
     }
     p

@@ -3,7 +3,7 @@
 #![tactic(auto)]
 
 use answer::{Refusal, Verdict};
-use libc::STDOUT_FILENO;
+use std::io::{Print, Result};
 use text::lines::put_refused;
 use types::rows::{EMPTY, LINE_STRING, POINT, POLYGON};
 use writer::{Stepped, Writer};
@@ -44,29 +44,28 @@ fn second_page(w: Writer, file: &mut [u8]) -> Stepped {
 }
 
 // The refused line.
-fn say_refused(w: Refusal) {
+fn say_refused(rt: &impl Print, w: Refusal) -> Result<()> {
     let mut out = [0u8; 96];
     let k = put_refused(&mut out, 0, w);
-    io::write_all(STDOUT_FILENO, &out[..k]);
+    rt.write_all(&out[..k])
 }
 
 // The bytes before the position, if the last step was taken.
-fn show(last: Stepped, file: &[u8]) {
+fn show(rt: &impl Print, last: Stepped, file: &[u8]) -> Result<()> {
     let end = last.writer.position;
     let verdict = last.verdict;
     match verdict {
         Verdict::Holds => {
             if end <= file.len() {
-                io::write_all(STDOUT_FILENO, &file[..end]);
+                return rt.write_all(&file[..end]);
             }
+            Ok(())
         }
-        Verdict::Refused(w) => {
-            say_refused(w);
-        }
+        Verdict::Refused(w) => say_refused(rt, w),
     }
 }
 
-fn main() {
+fn main(rt: HostRuntime) -> Result<()> {
     let mut file = [0u8; 512];
     let fresh = Writer {
         position: 0,
@@ -78,5 +77,5 @@ fn main() {
     let one = first_page(opened.writer, &mut file);
     let two = second_page(one.writer, &mut file);
     let closed = two.writer.close(&mut file);
-    show(closed, &file);
+    show(&rt, closed, &file)
 }

@@ -7,16 +7,17 @@ mod print;
 
 use input::{Input, read_input};
 use print::print;
+use told::fail;
 
 // Reads one byte more than the largest file that it takes, to see whether there is more.
-fn main() {
+fn main(rt: HostRuntime) {
     let mut bytes = [0u8; 40961];
-    match read_input(&mut bytes) {
+    match read_input(&mut rt.stdin(), &mut bytes) {
         Input::Is(n) => {
-            print(&bytes[..n]);
+            print(&rt, &bytes[..n]);
         }
-        Input::Broken => {
-            os::fail(b"sound: standard input");
+        Input::Broken(why) => {
+            fail(&rt, "sound: standard input", why);
         }
     }
 }

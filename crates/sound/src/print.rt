@@ -6,7 +6,8 @@ ghost use Rattle.text.specs.Stretch.{Stretch};
 ghost use Rattle.sound.specs.Sound.{printed_of};
 
 use crate::line::put_line;
-use libc::STDOUT_FILENO;
+use std::io::{Eprint, Print};
+use told::fail;
 
 // How many bytes of what is printed of an input have been handed on.
 #[derive(Clone, Copy)]
@@ -15,23 +16,23 @@ pub struct Printed {
 }
 
 // Writes a stretch, or says on standard error why it could not.
-fn write(input: &[u8], stretch: &[u8], k: &mut usize)
+fn write(rt: &(impl Print + Eprint), input: &[u8], stretch: &[u8], k: &mut usize)
     requires { Stretch (printed_of input.now) k.old stretch.now }
     ensures { k.new ≡ k.old + length stretch.now }
 {
     *k += stretch.len();
-    if !io::write_all(STDOUT_FILENO, stretch) {
-        os::fail(b"sound: standard output");
+    if let Err(why) = rt.write_all(stretch) {
+        fail(rt, "sound: standard output", why);
     }
 }
 
 // Prints the line for an input, any bytes: all of it.
-pub fn print(input: &[u8]) -> Printed
+pub fn print(rt: &(impl Print + Eprint), input: &[u8]) -> Printed
     ensures { result.k ≡ length (printed_of input.now) }
 {
     let mut p = Printed { k: 0 };
     let mut out = [0u8; 96];
     let n = put_line(input, &mut out);
-    write(input, &out[..n], &mut p.k);
+    write(rt, input, &out[..n], &mut p.k);
     p
 }

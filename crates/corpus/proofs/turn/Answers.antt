@@ -1,0 +1,8 @@
+-- `corpus::turn` reads into a part that lies in the buffer, and serves just that part. Assumes nothing.
+use mathlib.Core.Path.{sym}
+use native.Mathlib.Omega.{arith}
+use lib.Seq.{length-take-le}
+use Rattle.corpus.proofs.turn.Goals as goal
+
+pub slice_bounds-read_full-end-3 : goal.slice_bounds-read_full-end-3
+slice_bounds-read_full-end-3 c = sym (length-take-le _ _ (omega arith))
