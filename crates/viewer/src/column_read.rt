@@ -7,8 +7,7 @@ use crate::word::filled_word;
 use column::read::read;
 
 // The n values of a column at the start of a room, and n; or the refusal, which leaves the room.
-#[unsafe(no_mangle)]
-pub extern "C" fn boundary_column_read(column: &[u8], n: usize, room: &mut [u64]) -> u64
+pub fn boundary_column_read(column: &[u8], n: usize, room: &mut [u64]) -> u64
     ensures { ToldIn (read_of 64 column.now n (length room.old)) length (λ l. l) room result }
 {
     filled_word(read(column, n, room))

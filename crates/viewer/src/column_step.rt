@@ -9,8 +9,7 @@ use reader::answer_at;
 use step::Answer;
 
 // 1 with a value: the words are then the next position, whose last value it is. 0 at the end, or the refusal; the words are then as they came.
-#[unsafe(no_mangle)]
-pub extern "C" fn boundary_column_step(column: &[u8], n: usize, position: &mut [u64]) -> u64
+pub fn boundary_column_step(column: &[u8], n: usize, position: &mut [u64]) -> u64
     ensures { ToldIn (step_call column.now n position.old) gives moves position result }
 {
     if position.len() < 4 {

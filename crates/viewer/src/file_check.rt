@@ -9,8 +9,7 @@ use file::check::check;
 use frame::walk::Checked;
 
 // The number of shapes of a sound file; or the refusal: its page in bits 0 to 31, its number in bits 32 to 39.
-#[unsafe(no_mangle)]
-pub extern "C" fn boundary_check(file: &[u8]) -> u64
+pub fn boundary_check(file: &[u8]) -> u64
     ensures { result ≡ word_of (on (check_of file.now) (λ t. ok t.shapes)) }
 {
     match check(file) {

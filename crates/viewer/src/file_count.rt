@@ -10,8 +10,7 @@ use query::query_block::{AskRead, ask_of};
 use search::count::{Counted, count_good};
 
 // The number of hits of a query, which is exactly its block; or the refusal, as for the check.
-#[unsafe(no_mangle)]
-pub extern "C" fn boundary_count(query: &[u8], file: &[u8]) -> u64
+pub fn boundary_count(query: &[u8], file: &[u8]) -> u64
     ensures { result ≡ word_of (on (ask_of query.now) (λ a. count_of a file.now)) }
 {
     match ask_of(query) {

@@ -41,8 +41,7 @@ fn put_about(about: &mut [u64], f: Found)
 
 // The number of vertices of the shape at a place, with the words about it, its part lengths and its patterns at the start of the four rooms; or the
 // refusal, which leaves them.
-#[unsafe(no_mangle)]
-pub extern "C" fn boundary_fetch(
+pub fn boundary_fetch(
     file: &[u8],
     place: u64,
     about: &mut [u64],

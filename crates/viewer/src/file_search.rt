@@ -8,8 +8,7 @@ use query::query_block::{AskRead, ask_of};
 use search::search::search_good;
 
 // The places of the hits at the start of a room, ascending, and their number; or the refusal, which leaves the room. The query is exactly its block.
-#[unsafe(no_mangle)]
-pub extern "C" fn boundary_search(query: &[u8], file: &[u8], places: &mut [u32]) -> u64
+pub fn boundary_search(query: &[u8], file: &[u8], places: &mut [u32]) -> u64
     ensures { ToldIn (search_call query.now file.now (length places.old)) length (λ l. l) places result }
 {
     match ask_of(query) {

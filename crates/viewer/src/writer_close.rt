@@ -7,8 +7,7 @@ use crate::word::number_word;
 use answer::table::ROOM;
 
 // 0, with the end block at the state's position and a closed state in the words; or the refusal, which leaves both.
-#[unsafe(no_mangle)]
-pub extern "C" fn boundary_close(writer: &mut [u64], buffer: &mut [u8]) -> u64
+pub fn boundary_close(writer: &mut [u64], buffer: &mut [u8]) -> u64
     ensures { KeptIn (close_call writer.old (length buffer.old)) writer buffer result }
 {
     if writer.len() < 4 {

@@ -8,8 +8,7 @@ use answer::table::ROOM;
 
 // 0, with the first block in the buffer and a state of no pages in the words; or the refusal, which leaves both. Of the state that comes in nothing
 // is used.
-#[unsafe(no_mangle)]
-pub extern "C" fn boundary_open(writer: &mut [u64], buffer: &mut [u8]) -> u64
+pub fn boundary_open(writer: &mut [u64], buffer: &mut [u8]) -> u64
     ensures { KeptIn (open_call writer.old (length buffer.old)) writer buffer result }
 {
     if writer.len() < 4 {

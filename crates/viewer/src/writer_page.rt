@@ -8,8 +8,7 @@ use crate::word::number_word;
 use answer::table::ROOM;
 
 // 0, with the page's block at the state's position and the next state in the words; or the refusal, which leaves both.
-#[unsafe(no_mangle)]
-pub extern "C" fn boundary_page(
+pub fn boundary_page(
     writer: &mut [u64],
     buffer: &mut [u8],
     registers: &[u32],
