@@ -1,5 +1,5 @@
 -- Laws of the entries that the writer writes: by cases on a step, that they say the values, and their bits. Assumes nothing.
-use Rattle.std.proofs.Common.{◌≡◌, ℕ, zero, suc, ◌+◌, ◌^◌, ◌<◌, ◌≤◌, Bool, true, false, ltb, List, [], ◌∷◌, ◌++◌, get_or, drop, sym, refl, ap, ◌∙◌, add-zero, arith, ltb-false, ltb-true, le-ltb, lt-ltb}
+use Rattle.std.proofs.Common.{◌≡◌, ℕ, suc, ◌+◌, ◌^◌, ◌<◌, ◌≤◌, Bool, true, false, ltb, List, [], ◌∷◌, ◌++◌, sym, refl, ap, ◌∙◌, add-zero, arith, ltb-false, ltb-true, le-ltb, lt-ltb}
 use native.Mathlib.Decide.{dec_lt}
 use lib.Pow.{ones_lt}
 use Rattle.entry.specs.Step.{z_of, marker}

@@ -4,7 +4,6 @@ use Rattle.std.proofs.Common.{◌≡◌, ℕ, ◌+◌, ◌-◌, ◌^◌, ◌<◌
 use Rattle.extent.specs.Rank.{key}
 use Rattle.extent.specs.Boxes.{least_of, greatest_of}
 use Rattle.extent.specs.Span.{lower, higher, flipped, higher_flipped, carried, by_sign, span_from, least_in, greatest_in, Spans}
-use Rattle.extent.specs.declared.span.Span.{Span}
 use Rattle.extent.proofs.Finite.{chosen}
 use Rattle.extent.proofs.Keys.{key-plus, key-minus, at-most-le, eq-same}
 use Rattle.extent.proofs.Firsts.{least-met, greatest-met}

@@ -1,6 +1,6 @@
 -- Only the two zeros are equal in value with unlike patterns; so of the least and the greatest of a list the one that is met first is the first zero, where it
 -- is zero, and else itself. Assumes nothing.
-use Rattle.std.proofs.Common.{◌≡◌, ℕ, zero, suc, ◌-◌, ◌%◌, ◌^◌, ◌<◌, Bool, true, false, cond, ltb, leb, List, [], ◌∷◌, length, get_or, sym, refl, ap, ◌∙◌, suc-le-suc, zero-le, le_of_suc-le-suc, arith, ltb-false, ltb-true, eq-eqb, eqb-true}
+use Rattle.std.proofs.Common.{◌≡◌, ℕ, zero, suc, ◌%◌, ◌^◌, ◌<◌, Bool, true, false, cond, ltb, leb, List, [], ◌∷◌, length, get_or, sym, refl, ap, ◌∙◌, suc-le-suc, zero-le, le_of_suc-le-suc, arith, ltb-false, ltb-true, eq-eqb, eqb-true}
 use Rattle.answer.proofs.Both.{not-true}
 use Rattle.extent.specs.Rank.{key_of, key, same_value}
 use Rattle.extent.specs.FirstMet.{AtMost, Under, AtLeast, Above, Met}

@@ -8,7 +8,7 @@ use Rattle.column.specs.Read.{decode_of}
 use Rattle.extent.specs.Boxes.{patterns}
 use Rattle.types.specs.Parts.{parts_rule}
 use Rattle.frame.specs.declared.head.Head.{Head}
-use Rattle.shape.specs.Outline.{Outline, Shape, outlines_of, registered}
+use Rattle.shape.specs.Outline.{Shape, outlines_of, registered}
 use Rattle.shape.specs.Rules.{box_rule, outline_rules}
 
 -- ---- what stands in a body, where its layout says

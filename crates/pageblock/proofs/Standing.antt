@@ -3,7 +3,7 @@ use Prim.Native.Nat.{ℕ, zero, suc, ◌+◌, ◌*◌, ◌^◌, ◌<◌}
 use mathlib.Core.Path.{◌≡◌, refl, sym, ap, ap₂, ◌∙◌}
 use mathlib.Core.List.{List, ◌∷◌, ◌++◌}
 use native.Mathlib.Nat.{mod-eq_of_lt, add_assoc, add-zero}
-use lib.ListN.{length, get_or, take, drop}
+use lib.ListN.{length, take, drop}
 use lib.Seq.{drop-drop, drop_at, take_at}
 use Rattle.le.specs.Number.{Fits, number, bytes_of, number_at, numbers_each, numbers_at, run_of}
 use Rattle.le.proofs.Bytes.{number-at-bytes_of}

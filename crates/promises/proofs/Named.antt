@@ -20,7 +20,7 @@ use Rattle.column.specs.Read.{decode_of}
 use Rattle.query.specs.declared.ask.Ask.{Ask}
 use Rattle.frame.specs.declared.head.Head.{Head}
 use Rattle.frame.specs.Frame.{Page, Frame, frame_of}
-use Rattle.frame.specs.Whole.{Says, AllSay, none, more}
+use Rattle.frame.specs.Whole.{Says, AllSay, more}
 use Rattle.frame.proofs.Heads.{head-is, head-limits}
 use Rattle.frame.proofs.Wholes.{frame_is}
 use Rattle.page.specs.Contents.{x_part, y_part}

@@ -7,10 +7,7 @@ use lib.ListN.{length}
 use Rattle.answer.specs.declared.Refusal.{Refusal}
 use Rattle.answer.specs.Refusal.{on_page}
 use Rattle.answer.specs.Outcome.{Out, refused, ok, on, in_page}
-use Rattle.answer.proofs.Outcomes.{never, ok-inj, on-ok, marked_refused, marked-value, marked-ok}
-use Rattle.answer.specs.Rule.{judged, passed}
-use Rattle.answer.specs.declared.Verdict.TheVariants as verdict
-use Rattle.answer.proofs.Rules.{refused-passed}
+use Rattle.answer.proofs.Outcomes.{never, ok-inj, on-ok, marked-value, marked-ok}
 use Rattle.extent.specs.Boxes.{patterns}
 use Rattle.query.specs.declared.ask.Ask.{Ask}
 use Rattle.query.specs.Ask.{opens}

@@ -1,5 +1,5 @@
 -- `entry::entry_at` gives the value and the place after it that the entry says, by the entry's two cases. Assumes nothing.
-use Rattle.std.proofs.Common.{arith, rules}
+use Rattle.std.proofs.Common.{arith}
 use Rattle.le.specs.Number.{number}
 use Rattle.entry.proofs.Reading.{given-short, given-full, size-least}
 use Rattle.entry.proofs.entry_at.Goals as goal

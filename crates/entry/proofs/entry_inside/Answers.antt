@@ -1,7 +1,6 @@
 -- `entry::entry_inside` gives the value and the place after it that the entry says, by the entry's two cases. Assumes nothing.
 use Rattle.le.specs.Number.{number}
 use Rattle.entry.proofs.Reading.{given-short, given-full}
-use Rattle.std.proofs.Common.{rules}
 use Rattle.entry.proofs.entry_inside.Goals as goal
 
 pub returns-then-e-m : goal.returns-then-e-m

@@ -1,5 +1,5 @@
 -- `entry::marker` gives the marker of its width. Width 0 by computing; otherwise n ones out of 64. Assumes nothing.
-use Rattle.std.proofs.Common.{sym, ap, arith, rules}
+use Rattle.std.proofs.Common.{sym, ap, arith}
 use Rattle.entry.specs.Step.{marker}
 use Rattle.entry.proofs.Steps.{marker-law}
 use Rattle.entry.proofs.marker.Goals as goal

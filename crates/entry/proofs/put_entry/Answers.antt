@@ -1,5 +1,5 @@
 -- `entry::put_entry` puts the fields of one entry: a step's one, or the marker and the full value. Assumes nothing.
-use Rattle.std.proofs.Common.{ℕ, ◌+◌, ◌<◌, ◌≤◌, length, sym, ap, subst, arith, rules}
+use Rattle.std.proofs.Common.{ℕ, ◌+◌, ◌<◌, ◌≤◌, length, sym, ap, subst, arith}
 use lib.Pow.{ones_lt}
 use Rattle.le.proofs.Puts.{length-put}
 use Rattle.entry.specs.Step.{marker}

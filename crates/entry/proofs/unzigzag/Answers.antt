@@ -1,5 +1,5 @@
 -- `entry::unzigzag` gives the definition's step, by its two cases. Assumes nothing.
-use Rattle.std.proofs.Common.{rules, eq-eqb, ne_eqb}
+use Rattle.std.proofs.Common.{eq-eqb, ne_eqb}
 use Rattle.entry.specs.Step.{unzigzag}
 use Rattle.entry.proofs.unzigzag.Goals as goal
 

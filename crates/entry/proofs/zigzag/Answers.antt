@@ -1,5 +1,5 @@
 -- `entry::zigzag` gives the z of the step: the wrapped subtraction is the step, and each half goes by its law. Assumes nothing.
-use Rattle.std.proofs.Common.{◌^◌, ◌<◌, arith, rules}
+use Rattle.std.proofs.Common.{◌^◌, ◌<◌, arith}
 use Rattle.entry.proofs.Steps.{sub-law, zig-low, zig-high}
 use Rattle.entry.proofs.zigzag.Goals as goal
 

@@ -1,5 +1,5 @@
 -- `count_of` is `filled_count`, case by case. Assumes nothing.
-use Rattle.std.proofs.Common.{ℕ, ◌*◌, ◌^◌, sym, ap, ◌∙◌, rules}
+use Rattle.std.proofs.Common.{ℕ, ◌*◌, ◌^◌, sym, ap, ◌∙◌}
 use Rattle.measure.specs.Answers.{filled_count}
 use Rattle.measure.proofs.count_of.Goals as goal
 

@@ -1,5 +1,5 @@
 -- `measure_decode` judges count and room as a read does, and then decodes: one law for each return. Assumes nothing.
-use Rattle.std.proofs.Common.{◌∙◌, arith, rules}
+use Rattle.std.proofs.Common.{◌∙◌, arith}
 use Rattle.measure.proofs.Measured.{many, room, decoded}
 use Rattle.measure.proofs.measure_decode.Goals as goal
 

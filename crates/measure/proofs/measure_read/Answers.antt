@@ -1,5 +1,5 @@
 -- `measure_read` gives the number of what `column::read::read` answers, and leaves its room. Assumes nothing.
-use Rattle.std.proofs.Common.{ap, ◌∙◌, rules}
+use Rattle.std.proofs.Common.{ap, ◌∙◌}
 use Rattle.measure.specs.Answers.{number_of}
 use Rattle.measure.proofs.measure_read.Goals as goal
 

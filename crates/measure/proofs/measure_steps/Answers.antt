@@ -1,6 +1,6 @@
 -- `measure::measure_steps` gives the sum of the run's values. The invariant: the sum so far and that of the values still to come make it.
 -- Assumes nothing.
-use Rattle.std.proofs.Common.{◌≡◌, ℕ, ◌+◌, ◌-◌, ◌%◌, ◌^◌, ◌<◌, ◌≤◌, sym, ap, ◌∙◌, arith, rules}
+use Rattle.std.proofs.Common.{ℕ, ◌+◌, ◌-◌, ◌%◌, ◌^◌, sym, ap, ◌∙◌, arith}
 use Rattle.step.specs.Step.{position}
 use Rattle.measure.specs.Sum.{sum_of}
 use Rattle.measure.proofs.Stepping.{given, given-none, given-many, sum-zero, sum-start, sum-none, sum_more, sum-end, sum-refused}

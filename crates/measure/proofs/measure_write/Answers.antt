@@ -1,5 +1,5 @@
 -- `measure_write` gives the count of what `column::write::write` answers, and leaves its room. Assumes nothing.
-use Rattle.std.proofs.Common.{ap, ◌∙◌, rules}
+use Rattle.std.proofs.Common.{ap, ◌∙◌}
 use Rattle.measure.specs.Answers.{filled_count}
 use Rattle.measure.proofs.measure_write.Goals as goal
 

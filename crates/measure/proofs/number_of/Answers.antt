@@ -1,5 +1,5 @@
 -- `number_of` is `number_of`, case by case. Assumes nothing.
-use Rattle.std.proofs.Common.{sym, ap, ◌∙◌, rules}
+use Rattle.std.proofs.Common.{sym, ap, ◌∙◌}
 use Rattle.measure.specs.Answers.{number_of}
 use Rattle.measure.proofs.number_of.Goals as goal
 

@@ -1,9 +1,8 @@
 -- `width::choose` takes the width of least size. The invariant: the best so far is the choice among 0 to n. Assumes nothing.
 use mathlib.Core.Path.{◌≡◌, ap, ◌∙◌}
-use Prim.Native.Nat.{◌≤◌, ◌-◌}
 use native.Mathlib.Omega.{arith}
 use Rattle.width.specs.Width.{zs_of, column_size, least, width_of}
-use Rattle.width.proofs.Least.{Chosen, chosen-zero, chosen_more}
+use Rattle.width.proofs.Least.{chosen-zero, chosen_more}
 use Rattle.width.proofs.choose.Goals as goal
 
 pub loop-n-init : goal.loop-n-init

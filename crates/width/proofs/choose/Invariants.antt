@@ -1,9 +1,7 @@
 -- `width::choose` takes the width of least size. The invariant: the best so far is the choice among 0 to n. Assumes nothing.
-use mathlib.Core.Path.{◌≡◌, ap, ◌∙◌}
 use Prim.Native.Nat.{◌≤◌, ◌-◌}
-use native.Mathlib.Omega.{arith}
-use Rattle.width.specs.Width.{zs_of, column_size, least, width_of}
-use Rattle.width.proofs.Least.{Chosen, chosen-zero, chosen_more}
+use Rattle.width.specs.Width.{zs_of, column_size}
+use Rattle.width.proofs.Least.{Chosen}
 use Rattle.width.proofs.choose.Given as goal
 
 abbrev pub invariant-loop-n : goal.invariant-loop-n

@@ -1,11 +1,11 @@
 -- `width::full_steps` counts the steps at or over the marker. The invariant: the count so far and the full steps that are left, after the
 -- value passed last, make all of them. Assumes nothing.
-use mathlib.Core.Path.{◌≡◌, sym, ap, ◌∙◌}
-use Prim.Native.Nat.{◌+◌, ◌≤◌, ◌<◌, ◌-◌}
+use mathlib.Core.Path.{sym, ap, ◌∙◌}
+use Prim.Native.Nat.{◌<◌}
 use native.Mathlib.Omega.{arith}
 use native.Mathlib.Nat.{zero-add}
-use lib.ListN.{length, drop}
-use Rattle.width.specs.Width.{zs_after, zs_of, fulls}
+use lib.ListN.{length}
+use Rattle.width.specs.Width.{zs_of, fulls}
 use Rattle.width.proofs.Sizes.{fulls-none, zs-split, count-more, count-end, count-le}
 use Rattle.width.proofs.full_steps.Goals as goal
 

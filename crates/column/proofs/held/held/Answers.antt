@@ -1,11 +1,11 @@
 -- `column::held::held` counts the values that the bytes hold in full. The invariant: so many are, and the others begin here. Assumes nothing.
-use Prim.Native.Nat.{ℕ, ◌+◌, ◌-◌}
+use Prim.Native.Nat.{ℕ, ◌+◌}
 use mathlib.Core.Path.{sym, ap, ◌∙◌}
 use native.Mathlib.Omega.{arith}
 use Rattle.le.specs.Number.{number}
 use Rattle.entry.specs.Entry.{size_at}
 use Rattle.entry.proofs.Reading.{size-le}
-use Rattle.column.proofs.Holding.{Counted, held_none, counted-one, counted-more, counted-stops, counted-all}
+use Rattle.column.proofs.Holding.{held_none, counted-one, counted-more, counted-stops, counted-all}
 use Rattle.column.proofs.held.held.Goals as goal
 
 pub returns-then-room-lt72 : goal.returns-then-room-lt72

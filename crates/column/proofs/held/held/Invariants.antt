@@ -1,11 +1,6 @@
 -- `column::held::held` counts the values that the bytes hold in full. The invariant: so many are, and the others begin here. Assumes nothing.
-use Prim.Native.Nat.{ℕ, ◌+◌, ◌-◌}
-use mathlib.Core.Path.{sym, ap, ◌∙◌}
-use native.Mathlib.Omega.{arith}
-use Rattle.le.specs.Number.{number}
-use Rattle.entry.specs.Entry.{size_at}
-use Rattle.entry.proofs.Reading.{size-le}
-use Rattle.column.proofs.Holding.{Counted, held_none, counted-one, counted-more, counted-stops, counted-all}
+use Prim.Native.Nat.{◌-◌}
+use Rattle.column.proofs.Holding.{Counted}
 use Rattle.column.proofs.held.held.Given as goal
 
 abbrev pub invariant-loop-i : goal.invariant-loop-i

@@ -1,13 +1,11 @@
 -- `column::walk::fill_last` gives values as long as steps follow each other in the last eight bytes. The invariant: the walk went from where it
 -- began to here, and the place lies in those bytes or behind them. Nothing is assumed.
-use Prim.Native.Nat.{◌+◌, ◌-◌, ◌/◌, ◌≤◌}
+use Prim.Native.Nat.{◌+◌, ◌/◌}
 use native.Mathlib.Omega.{arith}
 use lib.ListN.{length}
 use borrow.Author.Tests.{ltb-true}
 use Rattle.le.specs.Number.{number}
 use Rattle.entry.proofs.Reading.{given-short}
-use Rattle.column.specs.Position.{position}
-use Rattle.column.specs.Filling.{Went}
 use Rattle.column.proofs.Filling.{went-none, went-more}
 use Rattle.column.proofs.walk.fill_last.Goals as goal
 

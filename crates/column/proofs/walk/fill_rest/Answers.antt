@@ -1,10 +1,7 @@
 -- `column::walk::fill_rest` gives the rest of the values. The invariant: the walk went from where it began to here. Assumes nothing.
-use Prim.Native.Nat.{◌-◌}
 use native.Mathlib.Omega.{arith}
 use Rattle.le.specs.Number.{number}
 use Rattle.entry.proofs.Reading.{size-le}
-use Rattle.column.specs.Position.{position}
-use Rattle.column.specs.Filling.{Went}
 use Rattle.column.proofs.Filling.{went-none, went-more}
 use Rattle.column.proofs.walk.fill_rest.Goals as goal
 

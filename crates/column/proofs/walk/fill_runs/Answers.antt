@@ -1,11 +1,7 @@
 -- `column::walk::fill_runs` gives values as long as an entry is sure to lie inside the bytes: one of either kind, and then the steps that follow
 -- it. The invariant: the walk went from where it began to here. Assumes nothing.
-use Prim.Native.Nat.{◌-◌}
 use native.Mathlib.Omega.{arith}
 use borrow.Author.Tests.{ltb-true}
-use Rattle.le.specs.Number.{number}
-use Rattle.column.specs.Position.{position}
-use Rattle.column.specs.Filling.{Went}
 use Rattle.column.proofs.Filling.{went-none, went-more, went-again}
 use Rattle.column.proofs.walk.fill_runs.Goals as goal
 

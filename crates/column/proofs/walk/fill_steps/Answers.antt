@@ -1,12 +1,10 @@
 -- `column::walk::fill_steps` gives values as long as steps follow each other. The invariant: the walk went from where it began to here, and the
 -- steps that are left would end where all of them would have; so before that place one is left. Assumes nothing.
-use mathlib.Core.Path.{◌≡◌, refl, ◌∙◌}
-use Prim.Native.Nat.{◌+◌, ◌-◌, ◌*◌, ◌≤◌}
+use mathlib.Core.Path.{refl, ◌∙◌}
+use Prim.Native.Nat.{◌+◌}
 use native.Mathlib.Omega.{arith}
 use Rattle.le.specs.Number.{number}
 use Rattle.entry.proofs.Reading.{given-short}
-use Rattle.column.specs.Position.{position}
-use Rattle.column.specs.Filling.{Went}
 use Rattle.column.proofs.Filling.{went-none, went-more}
 use Rattle.column.proofs.Stepping.{step_left, step-on}
 use Rattle.column.proofs.walk.fill_steps.Goals as goal

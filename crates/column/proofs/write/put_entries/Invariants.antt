@@ -1,9 +1,8 @@
 -- `column::write::put_entries` puts the entries of all values after the first. The invariant: what is still to be put makes the same whole.
 -- Assumes nothing.
 use Prim.Native.Nat.{◌-◌}
-use native.Mathlib.Omega.{arith}
 use lib.ListN.{length}
-use Rattle.column.proofs.Writing.{Putting, putting-none, putting-room, putting-small, putting-more, putting-done}
+use Rattle.column.proofs.Writing.{Putting}
 use Rattle.column.proofs.write.put_entries.Given as goal
 
 abbrev pub invariant-loop-i : goal.invariant-loop-i

@@ -1,5 +1,4 @@
 -- `extent::bounds::bounds_at` takes the four patterns where they stand. Assumes nothing.
-use Rattle.std.proofs.Common.{rules}
 use Rattle.extent.specs.Boxes.{bounds_at}
 use Rattle.extent.proofs.bounds.bounds_at.Goals as goal
 

@@ -1,5 +1,5 @@
 -- `extent::bounds::good_patterns` tests each axis. Assumes nothing.
-use Rattle.std.proofs.Common.{sym, ◌∙◌, rules}
+use Rattle.std.proofs.Common.{sym, ◌∙◌}
 use Rattle.answer.proofs.Both.{first-fails, then}
 use Rattle.extent.proofs.Axes.{good-axes}
 use Rattle.extent.proofs.bounds.good_patterns.Goals as goal

@@ -1,7 +1,6 @@
 -- `extent::boxes::box_if_finite` makes the box of the two spans where its four patterns are finite, and then all are. Assumes nothing.
-use Rattle.std.proofs.Common.{sym, ap, ◌∙◌, subst, arith, rules}
+use Rattle.std.proofs.Common.{sym, ap, ◌∙◌, subst, arith}
 use Rattle.extent.specs.Boxes.{FiniteBox, four_finite}
-use Rattle.extent.specs.Forms.{bounds_from}
 use Rattle.extent.proofs.Finite.{finite-box, zeros-finite}
 use Rattle.extent.proofs.Spanned.{finite-spans, not-finite-spans, boxes-made, boxes-none}
 use Rattle.extent.proofs.boxes.box_if_finite.Goals as goal

@@ -1,5 +1,5 @@
 -- `extent::boxes::box_of` makes the box of the two spans, which is that of the vertices in value. Assumes nothing.
-use Rattle.std.proofs.Common.{sym, ◌∙◌, subst, rules}
+use Rattle.std.proofs.Common.{sym, ◌∙◌, subst}
 use Rattle.extent.specs.Boxes.{FiniteBox}
 use Rattle.extent.proofs.Spanned.{spans-finite, boxes-made}
 use Rattle.extent.proofs.boxes.box_of.Goals as goal

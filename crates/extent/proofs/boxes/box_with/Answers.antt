@@ -1,5 +1,4 @@
 -- `extent::boxes::box_with` makes four floats of four finite patterns, which are their patterns. Assumes nothing.
-use Rattle.std.proofs.Common.{rules}
 use Rattle.extent.proofs.boxes.box_with.Goals as goal
 
 pub returns : goal.returns

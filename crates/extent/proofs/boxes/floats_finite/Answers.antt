@@ -1,5 +1,5 @@
 -- `extent::boxes::floats_finite` makes the four tests, one after the other. Assumes nothing.
-use Rattle.std.proofs.Common.{◌≡◌, true, sym, ◌∙◌, rules}
+use Rattle.std.proofs.Common.{◌≡◌, true, sym, ◌∙◌}
 use Rattle.extent.specs.Rank.{finite}
 use Rattle.extent.specs.Boxes.{pattern_of, four_finite}
 use Rattle.extent.proofs.Tests.{passed-three, failed-third, failed-second, failed-first}

@@ -1,5 +1,5 @@
 -- `extent::boxes::form_of` makes the box where the patterns are of good form. Assumes nothing.
-use Rattle.std.proofs.Common.{sym, ◌∙◌, rules}
+use Rattle.std.proofs.Common.{sym, ◌∙◌}
 use Rattle.extent.proofs.Forms.{good-finite, form-made, form-not-good}
 use Rattle.extent.proofs.boxes.form_of.Goals as goal
 

@@ -1,5 +1,5 @@
 -- `extent::boxes::good_form` tests that the floats are finite, and then that the box is not reversed. Assumes nothing.
-use Rattle.std.proofs.Common.{sym, ◌∙◌, rules}
+use Rattle.std.proofs.Common.{sym, ◌∙◌}
 use Rattle.extent.specs.Boxes.{good_form}
 use Rattle.extent.proofs.Finite.{finite-box}
 use Rattle.extent.proofs.boxes.good_form.Goals as goal

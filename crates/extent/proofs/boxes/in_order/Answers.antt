@@ -1,5 +1,5 @@
 -- `extent::boxes::in_order` says whether least ≤ greatest, for x and for y. Assumes nothing.
-use Rattle.std.proofs.Common.{sym, ◌∙◌, rules}
+use Rattle.std.proofs.Common.{sym, ◌∙◌}
 use Rattle.answer.proofs.Both.{first-fails, then}
 use Rattle.extent.specs.Boxes.{in_order}
 use Rattle.extent.proofs.boxes.in_order.Goals as goal

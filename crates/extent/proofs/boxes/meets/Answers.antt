@@ -1,5 +1,5 @@
 -- `extent::boxes::meets` says whether two boxes share a point, by four tests of values. Assumes nothing.
-use Rattle.std.proofs.Common.{sym, ◌∙◌, rules}
+use Rattle.std.proofs.Common.{sym, ◌∙◌}
 use Rattle.extent.specs.Boxes.{meets}
 use Rattle.extent.proofs.Tests.{passed-three, failed-third, failed-second, failed-first}
 use Rattle.extent.proofs.boxes.meets.Goals as goal

@@ -1,5 +1,5 @@
 -- `extent::boxes::same_value` says whether two boxes are the same in value, by four tests of values. Assumes nothing.
-use Rattle.std.proofs.Common.{sym, ◌∙◌, rules}
+use Rattle.std.proofs.Common.{sym, ◌∙◌}
 use Rattle.extent.specs.Boxes.{same_box}
 use Rattle.extent.proofs.Tests.{passed-three, failed-third, failed-second, failed-first}
 use Rattle.extent.proofs.boxes.same_value.Goals as goal

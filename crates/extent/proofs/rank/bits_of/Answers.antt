@@ -1,5 +1,4 @@
 -- `extent::rank::bits_of` meets its contract: a finite float is no NaN. Assumes nothing.
-use Rattle.std.proofs.Common.{rules}
 use Rattle.extent.proofs.Patterns.{no_nan}
 use Rattle.extent.proofs.rank.bits_of.Goals as goal
 

@@ -1,5 +1,5 @@
 -- `extent::span::first_as` looks for the first zero where b is zero. Assumes nothing.
-use Rattle.std.proofs.Common.{sym, ◌∙◌, rules}
+use Rattle.std.proofs.Common.{sym, ◌∙◌}
 use Rattle.extent.specs.Span.{first_as}
 use Rattle.extent.proofs.span.first_as.Goals as goal
 

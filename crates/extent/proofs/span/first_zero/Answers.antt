@@ -1,7 +1,6 @@
 -- `extent::span::first_zero` gives the first zero of a list. The invariant: none has been passed. Assumes nothing.
-use Rattle.std.proofs.Common.{◌≡◌, ◌-◌, ◌≤◌, length, drop, sym, refl, ◌∙◌, arith, drop_of_length-le, rules}
+use Rattle.std.proofs.Common.{drop, sym, refl, ◌∙◌, arith, drop_of_length-le}
 use Rattle.answer.proofs.Alls.{stands}
-use Rattle.extent.specs.Span.{first_zero}
 use Rattle.extent.proofs.Zeros.{first-here, first-later, first-none}
 use Rattle.extent.proofs.span.first_zero.Goals as goal
 

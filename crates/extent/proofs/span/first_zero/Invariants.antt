@@ -1,8 +1,6 @@
 -- `extent::span::first_zero` gives the first zero of a list. The invariant: none has been passed. Assumes nothing.
-use Rattle.std.proofs.Common.{◌≡◌, ◌-◌, ◌≤◌, length, drop, sym, refl, ◌∙◌, arith, drop_of_length-le, rules}
-use Rattle.answer.proofs.Alls.{stands}
+use Rattle.std.proofs.Common.{◌≡◌, ◌-◌, ◌≤◌, length, drop}
 use Rattle.extent.specs.Span.{first_zero}
-use Rattle.extent.proofs.Zeros.{first-here, first-later, first-none}
 use Rattle.extent.proofs.span.first_zero.Given as goal
 
 abbrev pub invariant-loop-i : goal.invariant-loop-i

@@ -1,5 +1,5 @@
 -- `extent::span::turned` turns the sign bit over. Assumes nothing.
-use Rattle.std.proofs.Common.{rules, le-ltb, lt-ltb}
+use Rattle.std.proofs.Common.{le-ltb, lt-ltb}
 use Rattle.extent.specs.Span.{flipped}
 use Rattle.extent.proofs.span.flipped.Goals as goal
 

@@ -1,5 +1,5 @@
 -- `extent::span::higher_turned` compares the two with their sign bits turned over. Assumes nothing.
-use Rattle.std.proofs.Common.{ltb, sym, ◌∙◌, ap₂, rules, le-ltb, lt-ltb}
+use Rattle.std.proofs.Common.{ltb, sym, ◌∙◌, ap₂, le-ltb, lt-ltb}
 use Rattle.extent.specs.Span.{higher_flipped}
 use Rattle.extent.proofs.span.higher_flipped.Goals as goal
 

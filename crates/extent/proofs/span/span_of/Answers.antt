@@ -1,8 +1,8 @@
 -- `extent::span::span_of` carries three choices through a list in one walk, and makes its least and its greatest of them. The invariant: what the three are
 -- so far, and the values to come, make them. Assumes nothing.
-use Rattle.std.proofs.Common.{◌-◌, ◌<◌, ◌≤◌, length, refl, ◌∙◌, arith, rules}
+use Rattle.std.proofs.Common.{◌<◌, ◌≤◌, length, refl, ◌∙◌, arith}
 use Rattle.extent.specs.Span.{lower, higher, higher_flipped, by_sign}
-use Rattle.extent.proofs.Carrying.{Carries, carries-more, carries-done}
+use Rattle.extent.proofs.Carrying.{carries-more, carries-done}
 use Rattle.extent.proofs.Spanned.{span-made}
 use Rattle.extent.proofs.span.span_of.Goals as goal
 

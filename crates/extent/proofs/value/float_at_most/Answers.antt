@@ -1,5 +1,5 @@
 -- `extent::value::float_at_most` asks it of the patterns of the two floats. Assumes nothing.
-use Rattle.std.proofs.Common.{◌∙◌, ap₂, rules}
+use Rattle.std.proofs.Common.{◌∙◌, ap₂}
 use Rattle.extent.specs.Rank.{at_most}
 use Rattle.extent.proofs.value.float_at_most.Goals as goal
 

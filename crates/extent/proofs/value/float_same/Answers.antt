@@ -1,5 +1,5 @@
 -- `extent::value::float_same` compares the keys of the patterns of the two floats. Assumes nothing.
-use Rattle.std.proofs.Common.{eqb, sym, ap, ◌∙◌, ap₂, rules}
+use Rattle.std.proofs.Common.{eqb, sym, ap, ◌∙◌, ap₂}
 use Rattle.extent.specs.Rank.{key}
 use Rattle.extent.proofs.Keys.{same_key}
 use Rattle.extent.proofs.value.float_same.Goals as goal

@@ -1,5 +1,5 @@
 -- `extent::value::good_axis` makes three tests of two keys: in order, the first not too low, the second not too high. Assumes nothing.
-use Rattle.std.proofs.Common.{ℕ, ◌-◌, ◌^◌, ltb, ap, ◌∙◌, arith, rules}
+use Rattle.std.proofs.Common.{ℕ, ◌-◌, ◌^◌, ltb, ap, ◌∙◌, arith}
 use Rattle.extent.proofs.Axes.{axis-test, axis-low, axis-reversed}
 use Rattle.extent.proofs.value.good_axis.Goals as goal
 

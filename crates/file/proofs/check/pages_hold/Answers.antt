@@ -1,11 +1,9 @@
 -- `file::check::pages_hold` opens page after page: what is left decides as the whole does. Assumes nothing.
-use mathlib.Core.Path.{◌≡◌, refl, sym, ◌∙◌}
-use Prim.Native.Nat.{◌-◌}
+use mathlib.Core.Path.{refl, sym, ◌∙◌}
 use borrow.Author.Tests.{not-true, not-false}
-use lib.ListN.{length}
 use Rattle.frame.proofs.Ahead.{ahead-next, ahead-stop, ahead-go}
 use Rattle.page.proofs.Opening.{scratch-kept, opened-refused}
-use Rattle.file.proofs.Rests.{Going, going_end, going-refused, going_on, going-fewer}
+use Rattle.file.proofs.Rests.{going_end, going-refused, going_on, going-fewer}
 use Rattle.file.proofs.check.pages_hold.Goals as goal
 
 pub loop-c-init : goal.loop-c-init

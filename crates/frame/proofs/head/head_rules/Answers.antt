@@ -1,7 +1,6 @@
 -- `head_rules` makes the tests of `head_of`, one after the other. Assumes nothing.
 use mathlib.Core.Path.{sym, ap, ◌∙◌}
 use native.Mathlib.Omega.{arith}
-use borrow.Author.Tests.{not-true, not-false}
 use Rattle.answer.specs.Table.{lengths, counts}
 use Rattle.answer.specs.Rule.{passed}
 use Rattle.answer.proofs.Rules.{passed-because}

@@ -1,14 +1,7 @@
 -- `walk_from` counts what the walk comes to: the totals so far with those of what is left are those of the whole, and the pages that may
 -- follow get fewer. Assumes nothing.
 use Prim.Native.Nat.{◌-◌}
-use mathlib.Core.Path.{◌≡◌, sym, ap, ◌∙◌}
-use Rattle.answer.specs.Outcome.{ok}
-use Rattle.answer.specs.Rule.{judged}
-use Rattle.answer.proofs.Rules.{holds-passed, refused-passed}
-use Rattle.frame.specs.declared.cursor.Glance.{Glance}
-use Rattle.frame.specs.Next.{NextBlock, next_of}
-use Rattle.frame.proofs.Walks.{Walking, walking_start, walking-refused, walking-end, walking-fewer, walking-page}
-use Rattle.frame.proofs.Found.{ends-end, ends-page}
+use Rattle.frame.proofs.Walks.{Walking}
 use Rattle.frame.proofs.walk.walk_from.Given as goal
 
 abbrev pub invariant-loop-w : goal.invariant-loop-w

@@ -1,15 +1,13 @@
 -- `grid::turning::turn` meets its contract. The invariant: the sum so far and the vertices to come make the turn, and the sum is at most 2 ^ 49 for
 -- each vertex passed, so it fits. Assumes nothing.
 use mathlib.Core.Path.{◌≡◌, refl, sym, ap, ◌∙◌, subst}
-use mathlib.Core.Bool.{true}
 use mathlib.Core.List.{List}
-use Prim.Native.Nat.{ℕ, ◌+◌, ◌-◌, ◌*◌, ◌^◌, ◌≤◌, ◌<◌}
+use Prim.Native.Nat.{ℕ, ◌+◌, ◌*◌, ◌^◌, ◌≤◌, ◌<◌}
 use native.Mathlib.Omega.{arith}
 use lib.IntN.{ℤ, nat_abs, ◌+ℤ◌}
-use lib.ListN.{length, get_or}
+use lib.ListN.{length}
 use mir.Syntax.{w64}
 use mir.Val.{SFits, to_z, of_z}
-use Rattle.answer.specs.All.{all_of}
 use Rattle.answer.proofs.Alls.{all-at}
 use Rattle.grid.specs.Grid.{on_grid, whole_of}
 use Rattle.grid.specs.Turn.{edge}

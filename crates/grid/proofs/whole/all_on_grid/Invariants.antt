@@ -1,12 +1,10 @@
 -- `grid::whole::all_on_grid` meets its contract. The invariant: whether a bit is set so far, and those from i on, decide. Assumes nothing.
-use mathlib.Core.Path.{◌≡◌, refl, ◌∙◌}
+use mathlib.Core.Path.{◌≡◌}
 use mathlib.Core.Bool.{◌&&◌}
 use Prim.Native.Nat.{◌-◌}
-use native.Mathlib.Omega.{arith}
 use lib.Dec.{eqb}
 use lib.ListN.{length, drop}
 use Rattle.grid.specs.Grid.{all_on_grid}
-use Rattle.grid.proofs.OnGrid.{walk_more, walk-done}
 use Rattle.grid.proofs.whole.all_on_grid.Given as goal
 
 abbrev pub invariant-loop-i : goal.invariant-loop-i

@@ -1,14 +1,10 @@
 -- `store_tail` stores the bytes of x from i to the end. The invariant: j of them are stored, and `y` holds those that are left. The
 -- measure is what is left of the slice. Assumes nothing.
-use mathlib.Core.Path.{◌≡◌, refl, sym, ap, ◌∙◌}
-use Prim.Native.Nat.{ℕ, suc, ◌+◌, ◌*◌, ◌/◌, ◌%◌, ◌^◌, ◌≤◌, ◌-◌}
-use native.Mathlib.Nat.{div-one}
-use native.Mathlib.Omega.{arith}
-use lib.ListN.{length, length-set}
+use mathlib.Core.Path.{◌≡◌}
+use Prim.Native.Nat.{◌+◌, ◌*◌, ◌/◌, ◌^◌, ◌≤◌, ◌-◌}
+use lib.ListN.{length}
 use lib.Seq.{sets}
 use Rattle.le.specs.Number.{bytes_of}
-use lib.Pow.{shr-shr}
-use Rattle.le.proofs.Stores.{store-more, sets-past}
 use Rattle.le.proofs.bits.store_tail.Given as goal
 
 abbrev pub invariant-loop-j : goal.invariant-loop-j

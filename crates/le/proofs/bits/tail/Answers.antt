@@ -1,9 +1,9 @@
 -- `tail` gives the bits from byte i on. The invariant: `acc` is the number of the bytes from `e` on. The measure is `e`. Assumes nothing.
 use native.Mathlib.Nat.{le_antisymm}
-use mathlib.Core.Path.{◌≡◌, ap, ap₂, ◌∙◌}
-use Prim.Native.Nat.{ℕ, ◌+◌, ◌*◌, ◌≤◌, ◌-◌}
+use mathlib.Core.Path.{ap, ap₂, ◌∙◌}
+use Prim.Native.Nat.{ℕ, ◌+◌, ◌*◌, ◌-◌}
 use native.Mathlib.Omega.{arith}
-use lib.ListN.{length, drop}
+use lib.ListN.{drop}
 use Rattle.le.proofs.Numbers.{empty-law, past-law, tail-lt, tail-law, number_step}
 use Rattle.le.specs.Number.{number}
 use Rattle.le.proofs.bits.tail.Goals as goal

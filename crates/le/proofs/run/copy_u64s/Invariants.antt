@@ -1,11 +1,8 @@
 -- `le::run::copy_u64s` puts src at the start of dst. The invariant: the first i are there, and the rest stays. Assumes nothing.
-use mathlib.Core.Path.{◌≡◌, refl, ap, ◌∙◌}
-use mathlib.Core.List.{List, ◌++◌}
-use Prim.Native.Nat.{ℕ, ◌-◌, ◌≤◌}
-use native.Mathlib.Omega.{arith}
-use lib.ListN.{length, take, drop, length-set}
-use lib.Seq.{take-length}
-use Rattle.le.proofs.Copying.{copy_more}
+use mathlib.Core.Path.{◌≡◌}
+use mathlib.Core.List.{◌++◌}
+use Prim.Native.Nat.{◌-◌, ◌≤◌}
+use lib.ListN.{length, take, drop}
 use Rattle.le.proofs.run.copy_u64s.Given as goal
 
 abbrev pub invariant-loop-i : goal.invariant-loop-i

@@ -1,8 +1,7 @@
 -- `le::run::put_bytes` puts bytes. The invariant: the first i are put, and nothing else has changed. Assumes nothing.
-use mathlib.Core.Path.{◌≡◌, refl, ap, ◌∙◌}
-use Prim.Native.Nat.{◌-◌, ◌≤◌}
+use mathlib.Core.Path.{refl, ap, ◌∙◌}
 use native.Mathlib.Omega.{arith}
-use lib.ListN.{length, take, length-set}
+use lib.ListN.{length-set}
 use lib.Seq.{sets, take_all}
 use Rattle.le.proofs.Runs.{bytes-more}
 use Rattle.le.proofs.run.put_bytes.Goals as goal

@@ -1,10 +1,8 @@
 -- `le::run::put_bytes` puts bytes. The invariant: the first i are put, and nothing else has changed. Assumes nothing.
-use mathlib.Core.Path.{◌≡◌, refl, ap, ◌∙◌}
+use mathlib.Core.Path.{◌≡◌}
 use Prim.Native.Nat.{◌-◌, ◌≤◌}
-use native.Mathlib.Omega.{arith}
-use lib.ListN.{length, take, length-set}
-use lib.Seq.{sets, take_all}
-use Rattle.le.proofs.Runs.{bytes-more}
+use lib.ListN.{length, take}
+use lib.Seq.{sets}
 use Rattle.le.proofs.run.put_bytes.Given as goal
 
 abbrev pub invariant-loop-i : goal.invariant-loop-i

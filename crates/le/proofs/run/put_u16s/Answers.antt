@@ -1,9 +1,9 @@
 -- `le::run::put_u16s` puts a run of numbers. The invariant: the first i are put, and nothing else has changed. Assumes nothing.
-use mathlib.Core.Path.{◌≡◌, refl, sym, ap, ◌∙◌}
+use mathlib.Core.Path.{refl, sym, ap, ◌∙◌}
 use mathlib.Core.List.{List}
-use Prim.Native.Nat.{ℕ, ◌-◌, ◌≤◌}
+use Prim.Native.Nat.{ℕ}
 use native.Mathlib.Omega.{arith}
-use lib.ListN.{length, take}
+use lib.ListN.{length}
 use lib.Seq.{sets, length-sets, take_all}
 use Rattle.le.specs.Number.{bytes_of, run_of}
 use Rattle.le.proofs.Runs.{run_none, run_more}

@@ -1,12 +1,9 @@
 -- `le::run::put_u16s` puts a run of numbers. The invariant: the first i are put, and nothing else has changed. Assumes nothing.
-use mathlib.Core.Path.{◌≡◌, refl, sym, ap, ◌∙◌}
-use mathlib.Core.List.{List}
-use Prim.Native.Nat.{ℕ, ◌-◌, ◌≤◌}
-use native.Mathlib.Omega.{arith}
+use mathlib.Core.Path.{◌≡◌}
+use Prim.Native.Nat.{◌-◌, ◌≤◌}
 use lib.ListN.{length, take}
-use lib.Seq.{sets, length-sets, take_all}
-use Rattle.le.specs.Number.{bytes_of, run_of}
-use Rattle.le.proofs.Runs.{run_none, run_more}
+use lib.Seq.{sets}
+use Rattle.le.specs.Number.{run_of}
 use Rattle.le.proofs.run.put_u16s.Given as goal
 
 abbrev pub invariant-loop-i : goal.invariant-loop-i

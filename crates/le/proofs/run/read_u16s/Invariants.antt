@@ -1,12 +1,9 @@
 -- `le::run::read_u16s` fills the room with the run's numbers. The invariant: the first i are there, and the rest stays. Assumes nothing.
-use mathlib.Core.Path.{◌≡◌, refl, sym, ap, ◌∙◌}
+use mathlib.Core.Path.{◌≡◌}
 use mathlib.Core.List.{◌++◌}
-use Prim.Native.Nat.{◌-◌, ◌≤◌, ◌<◌}
-use native.Mathlib.Omega.{arith}
-use lib.ListN.{length, get_or, set, take, drop, length-set}
+use Prim.Native.Nat.{◌-◌, ◌≤◌}
+use lib.ListN.{length, take, drop}
 use Rattle.le.specs.Number.{numbers_at}
-use Rattle.le.proofs.Copying.{copy_more}
-use Rattle.le.proofs.Runs.{length-numbers, numbers-at, run-whole}
 use Rattle.le.proofs.run.read_u16s.Given as goal
 
 abbrev pub invariant-loop-i : goal.invariant-loop-i

@@ -94,11 +94,14 @@ vertex_rules-requires c =
     let el = read-u16s2.ensures ∙ lens-read h b _ st.requires.scratch_for.for_lens in
     let et = types-read h b _ _ refl refl in
     let k = rw c.in_default-columns.is at columns.ensures in
-    let n = vertices-long h b _ _ (k.vertices refl) in record { finite_box = head-box st.requires.by_index.0 b h (λ i. (shared-slice-known.given i).fits) st.requires.by_index.1; parted = record {
+    let n = vertices-long h b _ _ (k.vertices refl) in record {
+      finite_box = head-box st.requires.by_index.0 b h (λ i. (shared-slice-known.given i).fits) st.requires.by_index.1;
+      parted = record {
         parts = rw n.0 (loads-holds h b _ _ b b _ h.v ec el et refl (rw c.in_default.is at parts-rule.ensures));
         same = n.1 ∙ sym n.0;
         few = omega (arith, n.0, l.few);
-      } }
+      };
+    }
 
 pub returns : goal.returns
 returns c =

@@ -77,12 +77,15 @@ load-held-requires c =
     let st = c in
     let at = c.page_at-p in
     let m = limits_of st.args.s.now st.args.c at.result at.ensures in
-    let p = at.result in record { by_index = (st.args.c.edition, rw (part_of st.args.s.now p.body p.len) (page-is _ _ _ at.ensures).headed); scratch_for = record {
+    let p = at.result in record {
+      by_index = (st.args.c.edition, rw (part_of st.args.s.now p.body p.len) (page-is _ _ _ at.ensures).headed);
+      scratch_for = record {
         for_counts = sym (first_of p.head.g 256 st.args.counts.now st.requires.scratch.for_counts m.few);
         for_lens = sym (first_of p.head.p 2048 st.args.lens.now st.requires.scratch.for_lens (le_trans m.parts m.vertices));
         for_xs = sym (first_of p.head.v 2048 st.args.xs.now st.requires.scratch.for_xs m.vertices);
         for_ys = sym (first_of p.head.v 2048 st.args.ys.now st.requires.scratch.for_ys m.vertices);
-      } }
+      };
+    }
 
 pub overflow_cast-c : goal.overflow_cast-c
 overflow_cast-c c = let w = c.requires.within in record { fits = omega (arith, w.pages, w.shapes) }

@@ -1,11 +1,10 @@
 -- `place::rows::all_there` tests each place: those to come decide. Assumes nothing.
-use mathlib.Core.Path.{◌≡◌, refl}
-use Prim.Native.Nat.{ℕ, ◌-◌, ◌≤◌}
+use mathlib.Core.Path.{refl}
+use Prim.Native.Nat.{ℕ}
 use native.Mathlib.Omega.{arith}
 use borrow.Author.Tests.{lt-ltb, le-ltb}
 use lib.Dec.{ltb}
-use lib.ListN.{length, get_or, drop, drop_of_length-le}
-use Rattle.answer.specs.All.{all_of}
+use lib.ListN.{get_or, drop_of_length-le}
 use Rattle.answer.proofs.Alls.{stands, all_more, all-stop, all_done}
 use Rattle.place.proofs.rows.all_there.Goals as goal
 

@@ -1,12 +1,9 @@
 -- `place::rows::all_there` tests each place: those to come decide. Assumes nothing.
-use mathlib.Core.Path.{◌≡◌, refl}
+use mathlib.Core.Path.{◌≡◌}
 use Prim.Native.Nat.{ℕ, ◌-◌, ◌≤◌}
-use native.Mathlib.Omega.{arith}
-use borrow.Author.Tests.{lt-ltb, le-ltb}
 use lib.Dec.{ltb}
-use lib.ListN.{length, get_or, drop, drop_of_length-le}
+use lib.ListN.{length, drop}
 use Rattle.answer.specs.All.{all_of}
-use Rattle.answer.proofs.Alls.{stands, all_more, all-stop, all_done}
 use Rattle.place.proofs.rows.all_there.Given as goal
 
 abbrev pub invariant-loop-i : goal.invariant-loop-i

@@ -1,9 +1,7 @@
 -- `place::rows::put_rows` puts row after row: the first i stand in the rooms, and from the cursor of the last page one may seek on. Assumes nothing.
-use Prim.Native.Nat.{◌*◌, ◌-◌, ◌<◌}
-use native.Mathlib.Omega.{arith}
+use Prim.Native.Nat.{◌-◌}
 use lib.ListN.{length}
-use Rattle.place.proofs.Onwards.{seated-page}
-use Rattle.place.proofs.Places.{Listing, listing_none, listing-never, listing-more, listing-done}
+use Rattle.place.proofs.Places.{Listing}
 use Rattle.place.proofs.rows.put_rows.Given as goal
 
 abbrev pub invariant-loop-i : goal.invariant-loop-i

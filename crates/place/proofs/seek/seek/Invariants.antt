@@ -1,16 +1,7 @@
 -- `place::seek::seek` goes from page to page until the place lies in one: from each cursor it may be sought as well as from the first page, and the
 -- pages that may follow get fewer. Assumes nothing.
 use Prim.Native.Nat.{◌-◌, ◌≤◌}
-use mathlib.Core.Path.{sym, ap, ◌∙◌}
-use native.Mathlib.Omega.{arith}
-use borrow.Author.Tests.{not-true, not-false}
-use Rattle.answer.proofs.Outcomes.{ok-inj}
-use Rattle.frame.specs.declared.cursor.Glance.{Glance}
-use Rattle.frame.specs.declared.cursor.PageAt.{PageAt}
-use Rattle.frame.proofs.Ways.{page-inj}
-use Rattle.frame.proofs.Ahead.{ahead-next, ahead-stop, ahead-go}
 use Rattle.place.specs.Onward.{Onward}
-use Rattle.place.proofs.Onwards.{onward-end, onward-fewer, onward-here, onward-more}
 use Rattle.place.proofs.seek.seek.Given as goal
 
 abbrev pub invariant-loop-c : goal.invariant-loop-c

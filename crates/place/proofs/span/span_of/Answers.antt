@@ -4,7 +4,6 @@ use Prim.Native.Nat.{suc, ◌+◌, ◌≤◌}
 use native.Mathlib.Omega.{arith}
 use lib.ListN.{length, get_or}
 use lib.Seq.{length-take-le}
-use Rattle.types.specs.Parts.{total}
 use Rattle.types.proofs.Sums.{total-take-le}
 use Rattle.place.proofs.Spans.{total-suc, span-is}
 use Rattle.place.proofs.span.span_of.Goals as goal

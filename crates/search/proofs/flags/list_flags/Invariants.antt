@@ -1,11 +1,8 @@
 -- `search::flags::list_flags` puts word after word: those of the words to come are still to be put, and there are words while a place is left.
 -- Assumes nothing.
-use Prim.Native.Nat.{◌-◌, ◌≤◌, ◌<◌}
-use native.Mathlib.Omega.{arith}
-use lib.ListN.{length}
+use Prim.Native.Nat.{◌-◌}
 use Rattle.le.specs.Number.{number}
-use Rattle.search.specs.Flags.{places_in}
-use Rattle.search.proofs.Listing.{Flagging, flagging-none, flagging-here, flagging-room, flagging-more, flagging-done}
+use Rattle.search.proofs.Listing.{Flagging}
 use Rattle.search.proofs.flags.list_flags.Given as goal
 
 abbrev pub invariant-loop-k : goal.invariant-loop-k

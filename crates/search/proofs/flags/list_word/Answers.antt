@@ -1,6 +1,6 @@
 -- `search::flags::list_word` puts bit after bit: those of what is left of the word are still to be put. Assumes nothing.
 use native.Mathlib.Omega.{arith}
-use Rattle.search.proofs.Listing.{Wording, wording-none, wording-here, wording-room, wording-more, wording-done, half-less}
+use Rattle.search.proofs.Listing.{wording-none, wording-here, wording-room, wording-more, wording-done, half-less}
 use Rattle.search.proofs.flags.list_word.Goals as goal
 
 pub loop-y-init : goal.loop-y-init

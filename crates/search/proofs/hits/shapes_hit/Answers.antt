@@ -9,9 +9,9 @@ use Rattle.answer.proofs.Alls.{all-part}
 use Rattle.extent.specs.Rank.{finite}
 use Rattle.types.specs.Parts.{total}
 use Rattle.shape.specs.Outline.{outlines_of}
-use Rattle.shape.proofs.Walking.{Walking, walking-none, walking-counted, walking-parts, walking-there, outline_at, walking-cut, walking-stands, walking-more, walking-end}
+use Rattle.shape.proofs.Walking.{walking-none, walking-counted, walking-parts, walking-there, outline_at, walking-cut, walking-stands, walking-more, walking-end}
 use Rattle.search.specs.Flags.{only_if}
-use Rattle.search.proofs.Placing.{Noting, noting-none, noting-more, noting-done}
+use Rattle.search.proofs.Placing.{noting-none, noting-more, noting-done}
 use Rattle.search.proofs.hits.shapes_hit.Goals as goal
 
 pub loop-i-init : goal.loop-i-init

@@ -2,7 +2,6 @@
 -- fewer. Assumes nothing.
 use mathlib.Core.Path.{◌≡◌, sym, ap, subst, ◌∙◌}
 use mathlib.Core.Bool.{Bool}
-use Prim.Native.Nat.{◌-◌}
 use borrow.Author.Tests.{not-true, not-false}
 use Rattle.extent.specs.Boxes.{FiniteBox, patterns}
 use Rattle.le.proofs.Numbers.{bytes-part}
@@ -14,7 +13,6 @@ use Rattle.frame.specs.Next.{glance_of}
 use Rattle.frame.proofs.Found.{page-is}
 use Rattle.frame.proofs.Ahead.{ahead-next, ahead-stop, ahead-go}
 use Rattle.page.proofs.Loading.{head-box}
-use Rattle.search.specs.Skipped.{Skipping}
 use Rattle.search.proofs.Skipping.{skipping-start, skips-end, skips-page, skipping-fewer, skipping-more}
 use Rattle.search.proofs.pages.next_met.Goals as goal
 

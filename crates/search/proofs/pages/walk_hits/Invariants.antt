@@ -1,21 +1,15 @@
 -- `search::pages::walk_hits` goes from each page that the query meets to the next: what was found with what is still to come is the whole, and the
 -- pages that may follow get fewer. Assumes nothing.
-use mathlib.Core.Path.{◌≡◌, refl, sym, ap, ◌∙◌}
+use mathlib.Core.Path.{◌≡◌}
 use mathlib.Core.Bool.{true}
 use Prim.Native.Nat.{◌-◌}
-use native.Mathlib.Omega.{arith}
-use borrow.Author.Tests.{not-true, not-false}
 use lib.ListN.{length}
 use Rattle.answer.specs.Outcome.{ok}
 use Rattle.extent.specs.Boxes.{patterns}
 use Rattle.query.specs.Ask.{opens}
-use Rattle.frame.specs.declared.cursor.Glance.{Glance}
 use Rattle.frame.specs.declared.cursor.PageAt.{PageAt}
 use Rattle.frame.specs.Next.{page, next_of}
-use Rattle.frame.proofs.Ahead.{ahead-next, ahead-stop, ahead-go, ahead-page}
-use Rattle.page.proofs.Opening.{scratch-kept}
-use Rattle.search.proofs.Opened.{opened-meets}
-use Rattle.search.proofs.Meeting.{Meeting, meeting-start, meeting-end, meeting-fewer, meeting-refused, meeting-fits, meeting-more, meeting-skip}
+use Rattle.search.proofs.Meeting.{Meeting}
 use Rattle.search.proofs.pages.walk_hits.Given as goal
 
 abbrev pub invariant-loop-a : goal.invariant-loop-a

@@ -1,15 +1,11 @@
 -- `shape::ring::all_closed` tests each part: those to come, with the vertices to come, decide. Assumes nothing.
-use mathlib.Core.Path.{◌≡◌, refl, sym, ◌∙◌}
-use Prim.Native.Nat.{◌+◌, ◌-◌, ◌≤◌}
-use native.Mathlib.Omega.{arith}
-use borrow.Author.Tests.{not-true, not-false}
-use lib.ListN.{length, get_or, drop}
+use mathlib.Core.Path.{◌≡◌}
+use Prim.Native.Nat.{◌-◌}
+use lib.ListN.{length, drop}
 use Rattle.answer.specs.All.{all_of}
-use Rattle.answer.proofs.Alls.{all_more, all-stop, all_done}
 use Rattle.shape.specs.Outline.{parts_of}
 use Rattle.shape.specs.Rules.{closed_ring}
-use Rattle.shape.proofs.Cuts.{same-part}
-use Rattle.shape.proofs.Parting.{Parting, parting-none, parting-there, parting-stands, parting-more, parting-end}
+use Rattle.shape.proofs.Parting.{Parting}
 use Rattle.shape.proofs.ring.all_closed.Given as goal
 
 abbrev pub invariant-loop-i : goal.invariant-loop-i

@@ -1,15 +1,14 @@
 -- `shape::rules::each_shape` tests each shape: those to come, with the parts and the vertices to come, decide. Assumes nothing.
-use mathlib.Core.Path.{◌≡◌, refl, sym, ap, ◌∙◌}
+use mathlib.Core.Path.{refl, sym, ap, ◌∙◌}
 use Prim.Native.Nat.{ℕ, ◌+◌, ◌-◌, ◌≤◌, ◌<◌}
 use native.Mathlib.Omega.{arith}
 use borrow.Author.Tests.{not-true, not-false}
 use lib.ListN.{length, get_or, take, drop}
-use Rattle.answer.specs.All.{all_of}
 use Rattle.types.specs.Parts.{total}
 use Rattle.answer.proofs.Alls.{all_more, all-stop, all_here, all_done}
 use Rattle.shape.specs.Outline.{outlines_of}
 use Rattle.shape.specs.Which.{test_of, ready_for}
-use Rattle.shape.proofs.Walking.{Walking, walking-none, walking-counted, walking-table, walking-parts, walking-there, walking-cut, walking-stands, walking-more, walking-end}
+use Rattle.shape.proofs.Walking.{walking-none, walking-counted, walking-table, walking-parts, walking-there, walking-cut, walking-stands, walking-more, walking-end}
 use Rattle.shape.proofs.rules.each_shape.Goals as goal
 
 pub loop-i-init : goal.loop-i-init

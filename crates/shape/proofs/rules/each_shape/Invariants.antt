@@ -1,15 +1,11 @@
 -- `shape::rules::each_shape` tests each shape: those to come, with the parts and the vertices to come, decide. Assumes nothing.
-use mathlib.Core.Path.{◌≡◌, refl, sym, ap, ◌∙◌}
-use Prim.Native.Nat.{ℕ, ◌+◌, ◌-◌, ◌≤◌, ◌<◌}
-use native.Mathlib.Omega.{arith}
-use borrow.Author.Tests.{not-true, not-false}
-use lib.ListN.{length, get_or, take, drop}
+use mathlib.Core.Path.{◌≡◌}
+use Prim.Native.Nat.{◌-◌}
+use lib.ListN.{length, drop}
 use Rattle.answer.specs.All.{all_of}
-use Rattle.types.specs.Parts.{total}
-use Rattle.answer.proofs.Alls.{all_more, all-stop, all_here, all_done}
 use Rattle.shape.specs.Outline.{outlines_of}
-use Rattle.shape.specs.Which.{test_of, ready_for}
-use Rattle.shape.proofs.Walking.{Walking, walking-none, walking-counted, walking-table, walking-parts, walking-there, walking-cut, walking-stands, walking-more, walking-end}
+use Rattle.shape.specs.Which.{test_of}
+use Rattle.shape.proofs.Walking.{Walking}
 use Rattle.shape.proofs.rules.each_shape.Given as goal
 
 abbrev pub invariant-loop-i : goal.invariant-loop-i

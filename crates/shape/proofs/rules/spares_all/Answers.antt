@@ -1,10 +1,8 @@
 -- `shape::rules::spares_all` tests each type: those to come decide. Assumes nothing.
-use mathlib.Core.Path.{◌≡◌, refl, sym, ◌∙◌}
-use Prim.Native.Nat.{◌-◌, ◌≤◌}
+use mathlib.Core.Path.{refl, sym, ◌∙◌}
 use native.Mathlib.Omega.{arith}
 use borrow.Author.Tests.{not-true, not-false}
-use lib.ListN.{length, drop, drop_of_length-le}
-use Rattle.answer.specs.All.{all_of}
+use lib.ListN.{drop_of_length-le}
 use Rattle.answer.proofs.Alls.{stands, all_more, all-stop, all_done}
 use Rattle.shape.specs.Which.{spares}
 use Rattle.shape.proofs.rules.spares_all.Goals as goal

@@ -1,11 +1,8 @@
 -- `shape::rules::spares_all` tests each type: those to come decide. Assumes nothing.
-use mathlib.Core.Path.{◌≡◌, refl, sym, ◌∙◌}
+use mathlib.Core.Path.{◌≡◌}
 use Prim.Native.Nat.{◌-◌, ◌≤◌}
-use native.Mathlib.Omega.{arith}
-use borrow.Author.Tests.{not-true, not-false}
-use lib.ListN.{length, drop, drop_of_length-le}
+use lib.ListN.{length, drop}
 use Rattle.answer.specs.All.{all_of}
-use Rattle.answer.proofs.Alls.{stands, all_more, all-stop, all_done}
 use Rattle.shape.specs.Which.{spares}
 use Rattle.shape.proofs.rules.spares_all.Given as goal
 

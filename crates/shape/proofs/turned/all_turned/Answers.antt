@@ -1,15 +1,14 @@
 -- `shape::turned::all_turned` tests each ring: those to come, with the vertices to come, decide. Assumes nothing.
-use mathlib.Core.Path.{◌≡◌, refl, sym, ◌∙◌}
+use mathlib.Core.Path.{refl, sym, ◌∙◌}
 use Prim.Native.Nat.{◌+◌, ◌-◌, ◌≤◌}
 use native.Mathlib.Omega.{arith}
 use borrow.Author.Tests.{not-true, not-false}
-use lib.ListN.{length, get_or, drop}
-use Rattle.answer.specs.All.{all_of}
+use lib.ListN.{length, get_or}
 use Rattle.answer.proofs.Alls.{all_more, all-stop, all_done}
 use Rattle.shape.specs.Outline.{parts_of}
 use Rattle.shape.specs.Rules.{turn_not_zero}
 use Rattle.shape.proofs.Cuts.{gridded-part}
-use Rattle.shape.proofs.Parting.{Parting, parting-none, parting-there, parting-stands, parting-more, parting-end}
+use Rattle.shape.proofs.Parting.{parting-none, parting-there, parting-stands, parting-more, parting-end}
 use Rattle.shape.proofs.turned.all_turned.Goals as goal
 
 pub loop-i-init : goal.loop-i-init

@@ -1,10 +1,7 @@
 -- `types::parts::lengths_fit` tests each part length: those to come decide. Assumes nothing.
-use mathlib.Core.Path.{◌≡◌, refl, sym, ◌∙◌}
-use Prim.Native.Nat.{◌-◌, ◌≤◌}
+use mathlib.Core.Path.{refl, sym, ◌∙◌}
 use native.Mathlib.Omega.{arith}
-use borrow.Author.Tests.{not-true, not-false}
-use lib.ListN.{length, drop, drop_of_length-le}
-use Rattle.answer.specs.All.{all_of}
+use lib.ListN.{drop_of_length-le}
 use Rattle.types.specs.Parts.{fits, lengths_fit}
 use Rattle.answer.proofs.Alls.{stands, all_more, all-stop, all_done}
 use Rattle.types.proofs.parts.lengths_fit.Goals as goal

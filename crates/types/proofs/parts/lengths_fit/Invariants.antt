@@ -1,12 +1,9 @@
 -- `types::parts::lengths_fit` tests each part length: those to come decide. Assumes nothing.
-use mathlib.Core.Path.{◌≡◌, refl, sym, ◌∙◌}
+use mathlib.Core.Path.{◌≡◌}
 use Prim.Native.Nat.{◌-◌, ◌≤◌}
-use native.Mathlib.Omega.{arith}
-use borrow.Author.Tests.{not-true, not-false}
-use lib.ListN.{length, drop, drop_of_length-le}
+use lib.ListN.{length, drop}
 use Rattle.answer.specs.All.{all_of}
-use Rattle.types.specs.Parts.{fits, lengths_fit}
-use Rattle.answer.proofs.Alls.{stands, all_more, all-stop, all_done}
+use Rattle.types.specs.Parts.{fits}
 use Rattle.types.proofs.parts.lengths_fit.Given as goal
 
 abbrev pub invariant-loop-i : goal.invariant-loop-i

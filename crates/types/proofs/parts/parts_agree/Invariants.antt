@@ -1,11 +1,8 @@
 -- `types::parts::parts_agree` holds each shape's parts against the table: the shapes to come, with the parts to come, decide. Assumes nothing.
-use mathlib.Core.Path.{◌≡◌, sym, ap, ◌∙◌}
+use mathlib.Core.Path.{◌≡◌}
 use Prim.Native.Nat.{◌-◌, ◌≤◌}
-use native.Mathlib.Omega.{arith}
-use borrow.Author.Tests.{not-true, not-false}
-use lib.ListN.{length, get_or, drop}
-use Rattle.types.specs.Parts.{shape_agrees}
-use Rattle.types.proofs.Agreeing.{part_to_end, Agreeing, agree-uneven, agreeing-none, agreeing-more, agreeing-stop, agreeing-done}
+use lib.ListN.{length}
+use Rattle.types.proofs.Agreeing.{Agreeing}
 use Rattle.types.proofs.parts.parts_agree.Given as goal
 
 abbrev pub invariant-loop-i : goal.invariant-loop-i

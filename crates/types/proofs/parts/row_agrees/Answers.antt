@@ -1,6 +1,6 @@
 -- `types::parts::row_agrees` makes the three tests of a row in turn. Assumes nothing.
 use mathlib.Core.Path.{sym, ◌∙◌}
-use borrow.Author.Tests.{not-true, not-false, le-leb, lt-leb}
+use borrow.Author.Tests.{le-leb, lt-leb}
 use lib.Seq.{length-take-le}
 use Rattle.types.specs.Parts.{row_agrees}
 use Rattle.answer.proofs.Both.{first-fails, then}

@@ -1,11 +1,8 @@
 -- `types::parts::sum_is` takes the part lengths from v, one after the other: those to come must make what is left of it. Assumes nothing.
-use mathlib.Core.Path.{◌≡◌, sym}
+use mathlib.Core.Path.{◌≡◌}
 use Prim.Native.Nat.{◌+◌, ◌-◌, ◌≤◌}
-use native.Mathlib.Omega.{arith}
-use borrow.Author.Tests.{ne_eqb}
 use lib.ListN.{length, drop}
 use Rattle.types.specs.Parts.{total}
-use Rattle.types.proofs.Sums.{total-from, total-end, spent}
 use Rattle.types.proofs.parts.sum_is.Given as goal
 
 abbrev pub invariant-loop-i : goal.invariant-loop-i

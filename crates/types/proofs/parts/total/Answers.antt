@@ -1,9 +1,5 @@
 -- `types::parts::total` sums up: the sum so far and the part lengths to come make the whole. Assumes nothing.
-use mathlib.Core.Path.{◌≡◌}
-use Prim.Native.Nat.{◌+◌, ◌-◌, ◌≤◌}
 use native.Mathlib.Omega.{arith}
-use lib.ListN.{length, drop}
-use Rattle.types.specs.Parts.{total}
 use Rattle.types.proofs.Sums.{total-from, total-end}
 use Rattle.types.proofs.parts.total.Goals as goal
 
