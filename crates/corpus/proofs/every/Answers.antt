@@ -1,7 +1,5 @@
 -- `corpus::every` ends: with each case one fewer is left. Assumes nothing.
-use mathlib.Core.Path.{◌≡◌, refl, ◌∙◌}
-use native.Mathlib.Omega.{arith}
-use lib.ListN.{length}
+use mathlib.Core.Path.{refl, ◌∙◌}
 use Rattle.corpus.proofs.every.Goals as goal
 
 pub loop-left-init : goal.loop-left-init

@@ -1,6 +1,5 @@
 -- `corpus::every` ends: with each case one fewer is left. Assumes nothing.
-use mathlib.Core.Path.{◌≡◌, refl, ◌∙◌}
-use native.Mathlib.Omega.{arith}
+use mathlib.Core.Path.{◌≡◌}
 use lib.ListN.{length}
 use Rattle.corpus.proofs.every.Given as goal
 

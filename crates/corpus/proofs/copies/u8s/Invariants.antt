@@ -1,9 +1,7 @@
 -- `corpus::copies::u8s` reads in the record and writes in the room, and ends. Assumes nothing.
-use mathlib.Core.Path.{◌≡◌, refl, sym, ◌∙◌}
+use mathlib.Core.Path.{◌≡◌}
 use Prim.Native.Nat.{◌-◌, ◌≤◌}
-use native.Mathlib.Omega.{arith}
-use lib.ListN.{length, length-set}
-use lib.Seq.{length-take-le}
+use lib.ListN.{length}
 use Rattle.corpus.proofs.copies.u8s.Given as goal
 
 abbrev pub invariant-loop-i : goal.invariant-loop-i

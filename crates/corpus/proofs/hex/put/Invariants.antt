@@ -1,6 +1,5 @@
 -- `corpus::hex::put` writes in the text: two digits for each byte passed, of at most sixteen. Assumes nothing.
 use Prim.Native.Nat.{◌-◌, ◌≤◌}
-use native.Mathlib.Omega.{arith}
 use Rattle.corpus.proofs.hex.put.Given as goal
 
 abbrev pub invariant-loop-i : goal.invariant-loop-i

@@ -1,6 +1,5 @@
 -- `corpus::hex::u16s` reads in the room, writes what is used of the text, and ends. Assumes nothing.
 use Prim.Native.Nat.{◌-◌, ◌≤◌}
-use native.Mathlib.Omega.{arith}
 use lib.ListN.{length}
 use Rattle.corpus.proofs.hex.u16s.Given as goal
 
