@@ -50,13 +50,25 @@ def proved(crates):
 
 
 def linked(folder, to):
-    """Copies a folder of what a check has left, the checked modules by links: a check puts a new file in such a one's place, and changes none."""
+    """Copies a folder of what a check has left, as `rt` copies it: the checked modules and the files of a library by links where there can be any, since a check puts a new file in such a
+    one's place and changes none."""
 
     def copy(one, other):
-        return os.link(one, other) if one.endswith(".oantt") else shutil.copy2(one, other)
+        try:
+            if one.endswith(".oantt") or "/rlib/" in one:
+                return os.link(one, other)
+        except OSError:
+            pass
+        return shutil.copy2(one, other)
 
     shutil.rmtree(to, ignore_errors=True)
     shutil.copytree(folder, to, copy_function=copy)
+
+
+def as_left(folder):
+    """What tells whether a file of a folder was changed, lost or added."""
+    paths = [f"{at}/{name}" for at, _, names in os.walk(folder) for name in names]
+    return {path: (found.st_ino, found.st_size, found.st_mtime_ns) for path in paths for found in [os.lstat(path)]}
 
 
 class Rooms:
@@ -68,7 +80,8 @@ class Rooms:
             for part in ("rlib", "incremental"):
                 left = f"{ROOT}/crates/{crate}/out/{part}"
                 if os.path.isdir(left) and (part == "rlib" or crate in crates):
-                    shutil.copytree(left, f"{scratch}/left/{crate}/{part}")
+                    linked(left, f"{scratch}/left/{crate}/{part}")
+        self.left = as_left(f"{scratch}/left")
         for number in range(jobs()):
             self.free.put(self.made(f"{scratch}/room-{number}"))
 
@@ -149,6 +162,8 @@ def tried(checks, said):
         rooms = Rooms(scratch, list(dict.fromkeys(check[0].crate for check in checks)), said)
         with concurrent.futures.ThreadPoolExecutor(jobs()) as hands:
             found = list(hands.map(lambda check: one_try(rooms, check), checks))
+        if as_left(f"{scratch}/left") != rooms.left:
+            sys.exit("what the crates' own checks have left was changed while the versions were tried over it: nothing of this counts; try again")
     finally:
         shutil.rmtree(scratch)
     return {one: line for each in found for one, line in each.items()}
