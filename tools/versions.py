@@ -131,7 +131,7 @@ def apart(check):
 def own(said):
     """What the prover refused for itself, and not because something else was refused before it, in its own order."""
     found, explained = [], set()
-    for where, fact, why in re.findall(r"^(?:\./)?proofs/(\S+?)(?:/(?:Answers|Invariants|Proof))?\.antt:[0-9]+:[0-9]+: error: (?:`([^`]*)`: )?(.*)", said, re.M):
+    for where, fact, why in re.findall(r"^(?:\./)?(?:proofs/)?(\S+?)(?:/(?:Answers|Invariants|Proof))?\.(?:antt|rt):[0-9]+:[0-9]+: error: (?:`([^`]*)`: )?(.*)", said, re.M):
         if re.match(r"`[^`]*` was not admitted|[0-9]+ declarations? that depends? on ", why):
             continue
         found.append(Refused(where, fact, bool(NAMES.search(why))))
