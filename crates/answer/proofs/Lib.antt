@@ -4,3 +4,4 @@ pub mod Determined
 pub mod Rules
 pub mod Orders
 pub mod Alls
+pub mod Rests

@@ -1,11 +1,8 @@
--- One rule after another: what the verdict of the first says of both. Assumes nothing.
-use mathlib.Core.Path.{◌≡◌, refl, sym, ap, ◌∙◌}
+-- One rule after another: what the answer of the first says of both. Assumes nothing.
+use mathlib.Core.Path.{◌≡◌, refl, sym, ap}
 use Rattle.answer.specs.Outcome.{Out, refused, ok, on}
-use Rattle.answer.specs.Rule.{judged}
 use Rattle.answer.specs.declared.Refusal.{Refusal}
-use Rattle.answer.specs.declared.Verdict.TheVariants.{Holds, Refused}
 use Rattle.answer.proofs.Outcomes.{never, refused-inj}
-use Rattle.answer.proofs.Rules.{judged-holds, judged-refused}
 
 module _ {A B : Type 0} (o : Out A) (f : A → Out B) where
   -- what is refused first is refused
@@ -30,10 +27,10 @@ unfolding on
 on-on (refused w) f g = refl
 on-on (ok a) f g = refl
 
--- the same for a verdict on the first
+-- the same, where what a rule says stands first
 module _ {B : Type 0} (o : Out (Unit {0})) (f : Unit {0} → Out B) where
-  pub then-refused : (w : Refusal) → judged (Refused w) ≡ o → on o f ≡ refused w
-  then-refused w e = on-refused o f w (sym e ∙ judged-refused w)
+  pub then-refused : (w : Refusal) → refused w ≡ o → on o f ≡ refused w
+  then-refused w e = on-refused o f w (sym e)
 
-  pub then-holds : judged Holds ≡ o → on o f ≡ f tt
-  then-holds e = on_value o f tt (sym e ∙ judged-holds)
+  pub then-holds : ok tt ≡ o → on o f ≡ f tt
+  then-holds e = on_value o f tt (sym e)

@@ -1,13 +1,11 @@
--- Laws of rules and verdicts. Assumes nothing.
+-- Laws of rules. Assumes nothing.
 use Prim.Native.Nat.{ℕ}
-use mathlib.Core.Path.{◌≡◌, refl, sym, ap}
+use mathlib.Core.Path.{◌≡◌, refl, sym, ap, ◌∙◌}
 use mathlib.Core.Bool.{Bool, true, false}
 use Rattle.answer.specs.declared.Refusal.{Refusal}
-use Rattle.answer.specs.declared.Verdict.{Verdict}
-use Rattle.answer.specs.declared.Verdict.TheVariants.{Holds, Refused}
 use Rattle.answer.specs.Refusal.{because}
 use Rattle.answer.specs.Outcome.{Out, refused, ok, need, on, marked}
-use Rattle.answer.specs.Rule.{rule, judged, passed}
+use Rattle.answer.specs.Rule.{rule, passed}
 use Rattle.answer.proofs.Outcomes.{never, refused-inj, met, unmet}
 
 -- a test that holds, and one that does not
@@ -25,39 +23,22 @@ unfolding rule need
 rule-ok true n u e = refl
 rule-ok false n u e = absurd (never e)
 
--- what the two verdicts say
-pub judged-holds : judged Holds ≡ ok tt
-unfolding judged
-judged-holds = refl
+-- ---- an outcome as a rule
 
-pub judged-refused : (w : Refusal) → judged (Refused w) ≡ refused w
-unfolding judged
-judged-refused w = refl
-
--- a verdict is determined by what it says
-pub judged-one : (a b : Verdict) → judged a ≡ judged b → a ≡ b
-unfolding judged
-judged-one Holds Holds e = refl
-judged-one Holds (Refused w) e = absurd (never (sym e))
-judged-one (Refused w) Holds e = absurd (never e)
-judged-one (Refused w) (Refused x) e = ap Refused (refused-inj e)
-
--- ---- an outcome's verdict
-
-pub passed_ok : {A : Type 0} {o : Out A} (a : A) → o ≡ ok a → judged Holds ≡ passed o
-unfolding judged passed on
+pub passed_ok : {A : Type 0} {o : Out A} (a : A) → o ≡ ok a → ok tt ≡ passed o
+unfolding passed on
 passed_ok a e = rw e
 
-pub passed-refused : {A : Type 0} {o : Out A} (w : Refusal) → o ≡ refused w → judged (Refused w) ≡ passed o
-unfolding judged passed on
+pub passed-refused : {A : Type 0} {o : Out A} (w : Refusal) → o ≡ refused w → refused w ≡ passed o
+unfolding passed on
 passed-refused w e = rw e
 
 -- refused by a number
-pub passed-because : {A : Type 0} {o : Out A} (n : ℕ) (w : Refusal) → w ≡ because n → o ≡ refused (because n) → judged (Refused w) ≡ passed o
-unfolding judged passed on
+pub passed-because : {A : Type 0} {o : Out A} (n : ℕ) (w : Refusal) → w ≡ because n → o ≡ refused (because n) → refused w ≡ passed o
+unfolding passed on
 passed-because n w h e = rw (e, h)
 
--- what is made of a value has its verdict
+-- what is made of a value is passed with it
 pub passed_on : {A B : Type 0} (o : Out A) (f : A → B) → passed (on o (λ a. ok (f a))) ≡ passed o
 unfolding passed on
 passed_on (refused w) f = refl
@@ -75,13 +56,20 @@ unfolding passed on marked
 passed-marked f (refused w) = refl
 passed-marked f (ok a) = refl
 
--- and back: what a verdict that was handed on tells of the outcome
-pub holds-passed : {A : Type 0} (o : Out A) → judged Holds ≡ passed o → (a : A) × (o ≡ ok a)
-unfolding judged passed on
+-- and back: what an answer that was handed on tells of the outcome
+pub holds-passed : {A : Type 0} (o : Out A) → ok tt ≡ passed o → (a : A) × (o ≡ ok a)
+unfolding passed on
 holds-passed (refused w) e = absurd (never (sym e))
 holds-passed (ok a) e = (a, refl)
 
-pub refused-passed : {A : Type 0} (o : Out A) (w : Refusal) → judged (Refused w) ≡ passed o → o ≡ refused w
-unfolding judged passed on
+pub refused-passed : {A : Type 0} (o : Out A) (w : Refusal) → refused w ≡ passed o → o ≡ refused w
+unfolding passed on
 refused-passed (refused x) w e = ap refused (sym (refused-inj e))
 refused-passed (ok a) w e = absurd (never e)
+
+-- the same, by what a call answered
+pub held : {A : Type 0} {o : Out A} {r : Out (Unit {0})} {u : Unit {0}} → r ≡ passed o → r ≡ ok u → (a : A) × (o ≡ ok a)
+held {o = o} q e = holds-passed o (sym e ∙ q)
+
+pub failed : {A : Type 0} {o : Out A} {r : Out (Unit {0})} {w : Refusal} → r ≡ passed o → r ≡ refused w → o ≡ refused w
+failed {o = o} {w = w} q e = refused-passed o w (sym e ∙ q)

@@ -2,7 +2,6 @@
 use Rattle.std.specs.Prelude.{ℕ, List}
 use Rattle.std.specs.Borrow.{Bor, MutBor}
 use denote.Triple.Both.{Both}
-use Rattle.answer.specs.declared.Filled.{Filled}
 use Rattle.answer.specs.Outcome.{Out, Fills}
 
 -- both, of a slice that is lent to be read
@@ -26,5 +25,5 @@ abbrev pub left : LentMut → List ℕ
 left x = x.exit.now
 
 -- what a call says, and leaves in a room that it is lent, are those of the outcome o
-abbrev pub FillsIn : Out (List ℕ) → LentMut → Filled → Type 0
+abbrev pub FillsIn : Out (List ℕ) → LentMut → Out ℕ → Type 0
 FillsIn o room says = Fills o (came_mut room) says (left room)

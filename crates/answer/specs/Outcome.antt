@@ -1,15 +1,14 @@
 -- What a service comes to: its refusal, or its value. A service's definition is its own order of `need` and `on`, read from the top. Assumes
 -- nothing.
 use Rattle.std.specs.Prelude.{ℕ, ◌≡◌, Bool, true, false, List, ◌++◌, length, drop}
+use Rattle.std.specs.declared.result.Result.{Result}
+pub use Rattle.std.specs.declared.result.Result.TheVariants.{Ok as ok, Err as refused}
 use Rattle.answer.specs.declared.Refusal.{Refusal}
-use Rattle.answer.specs.declared.Filled.{Filled}
-use Rattle.answer.specs.declared.Filled.TheVariants.{Start, Refused}
 use Rattle.answer.specs.Refusal.{on_column, on_page}
 
--- refused, and why; or the value
-pub data Out (A : Type 0) : Type 0 where
-  refused : Refusal → Out A
-  ok : A → Out A
+-- the value; or refused, and why
+abbrev pub Out : Type 0 → Type 0
+Out A = Result A Refusal
 
 -- a test that must hold, else that refusal
 unfoldable pub need : {A : Type 0} → Bool → Refusal → Out A → Out A
@@ -42,11 +41,11 @@ filled (refused w) d = d
 filled (ok l) d = l ++ drop (length l) d
 
 -- what it says: how many it put there, or the refusal
-unfoldable pub answered : Out (List ℕ) → Filled
-answered (refused w) = Refused w
-answered (ok l) = Start (length l)
+unfoldable pub answered : Out (List ℕ) → Out ℕ
+answered (refused w) = refused w
+answered (ok l) = ok (length l)
 
 -- the contract of such a call: what it says, and the room as it leaves it, are those of the outcome o
-pub record Fills (o : Out (List ℕ)) (d : List ℕ) (says : Filled) (left : List ℕ) : Type 0 where
+pub record Fills (o : Out (List ℕ)) (d : List ℕ) (says : Out ℕ) (left : List ℕ) : Type 0 where
   pub answer : says ≡ answered o
   pub room : left ≡ filled o d

@@ -1,4 +1,4 @@
-// The columns of a page, as a refusal names them.
+// The columns of a page, as a refusal names them. Numbers and no enum: `Refusal::on_column` promises to hold any number, and the C face hands it on.
 
 // No column of a page.
 pub const NONE: u8 = 0;

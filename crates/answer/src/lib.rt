@@ -4,35 +4,22 @@
 ghost use Rattle.std.specs.Prelude.{◌≡◌, ◌≤◌};
 ghost use Rattle.answer.specs.Limits.{vertex_limit};
 ghost use Rattle.answer.specs.Refusal.{because, at_value, on_column, on_page};
-ghost use Rattle.answer.specs.Outcome.{in_page};
-ghost use Rattle.answer.specs.Rule.{rule, judged};
+ghost use Rattle.answer.specs.Outcome.{in_page, in_column};
+ghost use Rattle.answer.specs.Rule.{rule};
 
 pub mod axis;
 pub mod limits;
 pub mod table;
 
 // Why a call was refused: a number of the table, the column of a page that it concerns (0 none, 1 x, 2 y), the index of a value in a column (0 where
-// it concerns none), and the page (0 likewise). So ordered it takes eight bytes.
+// it concerns none), and the page (0 likewise). So ordered it takes eight bytes. Number and column are
+// numbers: see the tables of both.
 #[derive(Clone, Copy)]
 pub struct Refusal {
     pub number: u8,
     pub column: u8,
     pub index: u16,
     pub page: u32,
-}
-
-// The answer of a call that fills the start of a lent room: how many elements it put there, or the refusal, which leaves the room as it was.
-#[derive(Clone, Copy)]
-pub enum Filled {
-    Start(usize),
-    Refused(Refusal),
-}
-
-// The answer of a rule: it holds, or the refusal.
-#[derive(Clone, Copy)]
-pub enum Verdict {
-    Holds,
-    Refused(Refusal),
 }
 
 impl Refusal {
@@ -86,24 +73,35 @@ impl Refusal {
     }
 }
 
-impl Verdict {
-    // The verdict of a rule that a test decides, refused by its number.
-    pub fn of(holds: bool, number: u8) -> Verdict
-        ensures { judged result ≡ rule holds number }
-    {
-        if holds {
-            return Verdict::Holds;
-        }
-        Verdict::Refused(Refusal::because(number))
+// What a rule answers that a test decides: nothing more to say where it holds, else its number.
+#[tactic(auto, unfolding(crate::specs::Rule::rule, crate::specs::Outcome::need))]
+pub fn rule(holds: bool, number: u8) -> Result<(), Refusal>
+    ensures { result ≡ rule holds number }
+{
+    if holds {
+        return Ok(());
     }
+    Err(Refusal::because(number))
+}
 
-    // The same verdict, met in a page.
-    pub fn on_page(self, page: u32) -> Verdict
-        ensures { judged result ≡ in_page page (judged self) }
-    {
-        match self {
-            Verdict::Holds => Verdict::Holds,
-            Verdict::Refused(w) => Verdict::Refused(w.on_page(page)),
-        }
+// The same answer, met in a page.
+#[tactic(auto, unfolding(crate::specs::Outcome::marked))]
+pub fn in_page<T>(answer: Result<T, Refusal>, page: u32) -> Result<T, Refusal>
+    ensures { result ≡ in_page page answer }
+{
+    match answer {
+        Ok(value) => Ok(value),
+        Err(w) => Err(w.on_page(page)),
+    }
+}
+
+// The same answer, met in a column of a page.
+#[tactic(auto, unfolding(crate::specs::Outcome::marked))]
+pub fn in_column<T>(answer: Result<T, Refusal>, column: u8) -> Result<T, Refusal>
+    ensures { result ≡ in_column column answer }
+{
+    match answer {
+        Ok(value) => Ok(value),
+        Err(w) => Err(w.on_column(column)),
     }
 }

@@ -1,4 +1,5 @@
 // Document 01's table of refusal numbers, in its words. Each is given exactly when the line over it holds.
+// Numbers and no enum: `Refusal::at_value` promises to hold any number that it is handed, and the C face hands it on.
 
 // Query not finite, reversed, or its block malformed.
 pub const QUERY: u8 = 1;
