@@ -2,3 +2,4 @@ pub mod Sums
 pub mod Agreeing
 pub mod Tabled
 pub mod Passed
+pub mod Tested

@@ -9,6 +9,8 @@ use borrow.Author.Tests.{eq-eqb, ne_eqb}
 use lib.Dec.{eqb}
 use lib.ListN.{length, get_or, take, drop, take-append-drop, drop_of_length-le}
 use lib.Seq.{drop-cons}
+use Rattle.std.proofs.lemmas.List.Sums.{sum_by-cons}
+use Rattle.std.specs.List.{sum}
 use Rattle.types.specs.Parts.{total}
 
 pub total-none : total [] ≡ 0
@@ -45,3 +47,9 @@ total-end l i h = ap total (drop_of_length-le l {i = i} h) ∙ total-none
 pub spent : (left sum v : ℕ) → left + sum ≡ v → eqb left 0 ≡ eqb sum v
 spent zero sum v e = eq-eqb 0 0 refl ∙ sym (eq-eqb sum v (omega arith))
 spent (suc left) sum v e = ne_eqb (suc left) 0 (λ (z : suc left ≡ 0). omega arith) ∙ sym (ne_eqb sum v (λ (z : sum ≡ v). omega arith))
+
+-- in the library's words
+pub total_sum : (l : List ℕ) → total l ≡ sum l
+unfolding total
+total_sum [] = refl
+total_sum (n ∷ l) = ap (λ (k : ℕ). n + k) (total_sum l) ∙ sym (sum_by-cons (λ (k : ℕ). k) n l)

@@ -2,7 +2,7 @@
 ghost use Rattle.std.specs.Prelude.{◌≡◌, ◌≤◌};
 ghost use Rattle.types.specs.Types.{last_type, type_row};
 
-// The types.
+// The types. Numbers and no enum: a type is a byte of a file or of a lent list, any byte, and `parts_rule` promises to judge it.
 pub const EMPTY: u8 = 0;
 
 pub const POINT: u8 = 1;
@@ -36,7 +36,7 @@ const LINE_VERTICES: u16 = 2;
 // The least vertices of a ring: three corners, and the first of them again.
 const RING_VERTICES: u16 = 4;
 
-// The rows by type.
+// The rows by type. Each is written out: a function that makes a row of its numbers was tried, and a constant's value can't call one.
 const ROWS: [TypeRow; 7] = [
     // 0: empty
     TypeRow {

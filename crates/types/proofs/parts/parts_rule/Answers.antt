@@ -8,4 +8,4 @@ use Rattle.types.proofs.parts.parts_rule.Goals as goal
 
 pub returns : goal.returns
 unfolding parts_rule
-returns c = c.of.ensures ∙ ap (λ (t : Bool). rule t parts) c.parts_hold.ensures
+returns c = c.rule.ensures ∙ ap (λ (t : Bool). rule t parts) c.parts_hold.ensures

@@ -1,16 +1,10 @@
--- `types::parts::total` sums up: the sum so far and the part lengths to come make the whole. Assumes nothing.
-use native.Mathlib.Omega.{arith}
-use Rattle.types.proofs.Sums.{total-from, total-end}
+-- `types::parts::total` sums up, in the library's words. Assumes nothing.
+use Rattle.std.proofs.Common.{◌<◌, ◌^◌, sum, rules, sym}
+use Rattle.types.proofs.Sums.{total_sum}
 use Rattle.types.proofs.parts.total.Goals as goal
 
-pub overflow_cast-sum : goal.overflow_cast-sum
-overflow_cast-sum c = omega (arith, c.shared_slice_known-1.given c.loop-i.i)
-
-pub overflow_add-sum : goal.overflow_add-sum
-overflow_add-sum c = omega (arith, total-from c.args.lens.now c.loop-i.i c.loop-i-test.true, c.requires)
-
-pub loop-i-preserved : goal.loop-i-preserved
-loop-i-preserved c = omega (arith, total-from c.args.lens.now c.loop-i.i c.loop-i-test.true)
+pub sum-requires-clause-fits : goal.sum-requires-clause-fits
+sum-requires-clause-fits c = let h : sum c.args.lens.now < 2 ^ 64 = rw (sym (total_sum c.args.lens.now)) c.requires in search rules
 
 pub returns : goal.returns
-returns c = omega (arith, total-end c.args.lens.now c.loop-i.i c.loop-i-test.false)
+returns c = rw total_sum (search rules)
