@@ -42,9 +42,7 @@ fn tail(s: &[u8], i: usize) -> u64
         return last(s, i);
     }
     let mut acc: u64 = 0;
-    let mut e = n;
-    while i < e {
-        e -= 1;
+    for e in (i..n).rev() {
         acc = acc * 256 + wide(s[e]);
     }
     acc
@@ -142,11 +140,9 @@ fn store_tail(s: &mut [u8], i: usize, x: u64)
     ensures { s.new ≡ sets s.old i (bytes_of 8 x) }
 {
     let mut y = x;
-    let mut j: usize = 0;
-    while i + j < s.len() {
-        s[i + j] = low(y);
+    for b in s[i..].iter_mut() {
+        *b = low(y);
         y = y >> 8;
-        j += 1;
     }
 }
 

@@ -1,7 +1,7 @@
 // Runs of numbers: read, put and copied, one after the other.
-ghost use Rattle.std.specs.Prelude.{◌++◌, ◌≡◌, ◌+◌, ◌*◌, ◌≤◌, length, drop};
+ghost use Rattle.std.specs.Prelude.{ℕ, ◌++◌, ◌≡◌, ◌+◌, ◌*◌, ◌≤◌, length, drop, map};
 ghost use Rattle.std.proofs.lemmas.List.Edits.{sets};
-ghost use Rattle.le.specs.Number.{numbers_at, run_of};
+ghost use Rattle.le.specs.Number.{bytes_of, numbers_at, run_of};
 
 use crate::number::{put_u16, put_u32, u16_at};
 
@@ -10,37 +10,58 @@ pub fn read_u16s(s: &[u8], at: usize, d: &mut [u16])
     requires { at + 2 * length d.old ≤ length s.now }
     ensures { d.new ≡ numbers_at 2 (length d.old) s.now at }
 {
-    let n = d.len();
-    let mut i: usize = 0;
-    while i < n {
+    for i in 0..d.len() {
         d[i] = u16_at(s, at + 2 * i) as u16;
-        i += 1;
     }
 }
 
-// Puts the numbers xs, two bytes each, from place at on; the rest stays.
-pub fn put_u16s(d: &mut [u8], at: usize, xs: &[u16])
-    requires { at + 2 * length xs.now ≤ length d.old }
-    ensures { d.new ≡ sets d.old at (run_of 2 xs.now) }
-{
-    let n = xs.len();
-    let mut i: usize = 0;
-    while i < n {
-        put_u16(d, at + 2 * i, xs[i] as u64);
-        i += 1;
+// A number that is put as its bytes, the lowest first.
+pub trait Put: Copy {
+    // How many bytes it takes.
+    const BYTES: usize;
+
+    ghost BYTES: { ℕ };
+
+    // The number that it is.
+    ghost number: { Self → ℕ };
+
+    // Puts its bytes from place at on; the rest stays.
+    fn put(self, d: &mut [u8], at: usize)
+        requires { at + BYTES ≤ length d.old }
+        ensures { d.new ≡ sets d.old at (bytes_of BYTES (number self)) };
+}
+
+impl Put for u16 {
+    const BYTES: usize = 2;
+
+    ghost BYTES = { 2 };
+
+    ghost number = { λ x. x };
+
+    fn put(self, d: &mut [u8], at: usize) {
+        put_u16(d, at, u64::from(self));
     }
 }
 
-// Puts the numbers xs, four bytes each, from place at on; the rest stays.
-pub fn put_u32s(d: &mut [u8], at: usize, xs: &[u32])
-    requires { at + 4 * length xs.now ≤ length d.old }
-    ensures { d.new ≡ sets d.old at (run_of 4 xs.now) }
+impl Put for u32 {
+    const BYTES: usize = 4;
+
+    ghost BYTES = { 4 };
+
+    ghost number = { λ x. x };
+
+    fn put(self, d: &mut [u8], at: usize) {
+        put_u32(d, at, u64::from(self));
+    }
+}
+
+// Puts the numbers xs from place at on; the rest stays.
+pub fn put_run<T: Put>(d: &mut [u8], at: usize, xs: &[T])
+    requires { at + T.BYTES * length xs.now ≤ length d.old }
+    ensures { d.new ≡ sets d.old at (run_of T.BYTES (map T.number xs.now)) }
 {
-    let n = xs.len();
-    let mut i: usize = 0;
-    while i < n {
-        put_u32(d, at + 4 * i, xs[i] as u64);
-        i += 1;
+    for (i, x) in xs.iter().enumerate() {
+        x.put(d, at + T::BYTES * i);
     }
 }
 
@@ -49,36 +70,13 @@ pub fn put_bytes(d: &mut [u8], at: usize, xs: &[u8])
     requires { at + length xs.now ≤ length d.old }
     ensures { d.new ≡ sets d.old at xs.now }
 {
-    let n = xs.len();
-    let mut i: usize = 0;
-    while i < n {
-        d[at + i] = xs[i];
-        i += 1;
-    }
+    d[at..at + xs.len()].copy_from_slice(xs);
 }
 
-// Copies numbers of two bytes to the start of a room; the rest stays.
-pub fn copy_u16s(src: &[u16], dst: &mut [u16])
+// Copies a list to the start of a room; the rest stays.
+pub fn copy_to_start<T: Copy>(src: &[T], dst: &mut [T])
     requires { length src.now ≤ length dst.old }
     ensures { dst.new ≡ src.now ++ drop (length src.now) dst.old }
 {
-    let n = src.len();
-    let mut i: usize = 0;
-    while i < n {
-        dst[i] = src[i];
-        i += 1;
-    }
-}
-
-// Copies numbers of eight bytes to the start of a room; the rest stays.
-pub fn copy_u64s(src: &[u64], dst: &mut [u64])
-    requires { length src.now ≤ length dst.old }
-    ensures { dst.new ≡ src.now ++ drop (length src.now) dst.old }
-{
-    let n = src.len();
-    let mut i: usize = 0;
-    while i < n {
-        dst[i] = src[i];
-        i += 1;
-    }
+    dst[..src.len()].copy_from_slice(src);
 }

@@ -6,11 +6,7 @@ use Rattle.le.specs.Number.{number}
 use Rattle.le.proofs.bits.field.Goals as goal
 
 pub returns-then-w-le56 : goal.returns-then-w-le56
-returns-then-w-le56 c =
-    let s = c in
-    c.mask.ensures ∙ near-law (number s.args.s.now) s.args.at s.args.w c.load.result c.if-w-le56.true c.load.ensures
+returns-then-w-le56 c = c.mask.ensures ∙ near-law (number c.args.s.now) c.args.at c.args.w c.load.result c.if-w-le56.true c.load.ensures
 
 pub returns : goal.returns
-returns c =
-    let s = c in
-    c.mask-2.ensures ∙ ap (λ (x : ℕ). x % 2 ^ s.args.w) c.window.ensures ∙ mod-le-pow _ s.args.w 64 s.requires
+returns c = c.mask-2.ensures ∙ ap (λ (x : ℕ). x % 2 ^ c.args.w) c.window.ensures ∙ mod-le-pow _ c.args.w 64 c.requires

@@ -10,10 +10,9 @@ use Rattle.le.proofs.bits.field_in_last_eight.Goals as goal
 
 pub returns : goal.returns
 returns c =
-    let st = c in
-    let s = st.args.s.now in
-    let at = st.args.at in
+    let s = c.args.s.now in
+    let at = c.args.at in
     let f : ℕ = length s - 8 in
     let h : Bytes s = λ i. (c.shared_slice_known-1.given i).fits in
     let word = c.u64_at.ensures ∙ number-at 8 s f h in
-    λ w e. ap₂ bit_and (ap (λ (x : ℕ). x / 2 ^ (at - 8 * f)) word ∙ closing-law s f at h (omega (arith, st.requires.0)) st.requires.1) e ∙ and_mask (number s / 2 ^ at) w
+    λ w e. ap₂ bit_and (ap (λ (x : ℕ). x / 2 ^ (at - 8 * f)) word ∙ closing-law s f at h (omega (arith, c.requires.0)) c.requires.1) e ∙ and_mask (number s / 2 ^ at) w

@@ -9,10 +9,8 @@ use Rattle.le.proofs.bits.field_within.Goals as goal
 
 pub returns-then-w-le56 : goal.returns-then-w-le56
 returns-then-w-le56 c =
-    let st = c in
-    near-field (number st.args.s.now) st.args.at st.args.w st.args.m c.u64_at.result c.if-w-le56.true st.requires.1 (c.u64_at.ensures ∙ number-at 8 _ _ (λ i. (c.shared_slice_known-1.given i).fits))
+    near-field (number c.args.s.now) c.args.at c.args.w c.args.m c.u64_at.result c.if-w-le56.true c.requires.1 (c.u64_at.ensures ∙ number-at 8 _ _ (λ i. (c.shared_slice_known-1.given i).fits))
 
 pub returns : goal.returns
 returns c =
-    let st = c in
-    ap₂ bit_and c.window_within.ensures st.requires.1 ∙ and_mask (number st.args.s.now / 2 ^ st.args.at % 2 ^ 64) st.args.w ∙ mod-le-pow _ st.args.w 64 st.requires.0
+    ap₂ bit_and c.window_within.ensures c.requires.1 ∙ and_mask (number c.args.s.now / 2 ^ c.args.at % 2 ^ 64) c.args.w ∙ mod-le-pow _ c.args.w 64 c.requires.0

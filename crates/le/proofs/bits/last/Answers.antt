@@ -8,8 +8,7 @@ use Rattle.le.proofs.bits.last.Goals as goal
 
 pub returns : goal.returns
 returns c =
-    let st = c in
-    let s = st.args.s.now in
+    let s = c.args.s.now in
     let f : ℕ = length s - 8 in
-    ap (λ (x : ℕ). x / 2 ^ ((st.args.i - f) * 8)) (c.u64_at.ensures ∙ number-at 8 _ _ (λ i. (c.shared_slice_known-1.given i).fits))
-    ∙ last-law s f st.args.i (λ i. (c.shared_slice_known-1.given i).fits) (omega (arith, st.requires.0)) (omega (arith, st.requires.2))
+    ap (λ (x : ℕ). x / 2 ^ ((c.args.i - f) * 8)) (c.u64_at.ensures ∙ number-at 8 _ _ (λ i. (c.shared_slice_known-1.given i).fits))
+    ∙ last-law s f c.args.i (λ i. (c.shared_slice_known-1.given i).fits) (omega (arith, c.requires.0)) (omega (arith, c.requires.2))

@@ -8,11 +8,8 @@ use Rattle.le.proofs.bits.window.Goals as goal
 
 pub returns-then-k-eq0 : goal.returns-then-k-eq0
 returns-then-k-eq0 c =
-    let s = c in
-    let e : 8 * (s.args.at / 8) ≡ s.args.at = omega arith in
-    c.load-lo.ensures ∙ ap (λ (k : ℕ). number s.args.s.now / 2 ^ k % 2 ^ 64) e
+    let e : 8 * (c.args.at / 8) ≡ c.args.at = omega arith in
+    c.load-lo.ensures ∙ ap (λ (k : ℕ). number c.args.s.now / 2 ^ k % 2 ^ 64) e
 
 pub returns : goal.returns
-returns c =
-    let s = c in
-    window-law (number s.args.s.now) s.args.at c.byte-hi.result c.load-lo.result c.byte-hi.ensures c.load-lo.ensures
+returns c = window-law (number c.args.s.now) c.args.at c.byte-hi.result c.load-lo.result c.byte-hi.ensures c.load-lo.ensures

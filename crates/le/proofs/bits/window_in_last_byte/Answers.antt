@@ -9,8 +9,7 @@ use Rattle.le.proofs.bits.window_in_last_byte.Goals as goal
 
 pub returns : goal.returns
 returns c =
-    let st = c in
-    let a = st.args in
+    let a = c.args in
     let i = length a.s.now - 1 in
     let h : Bytes a.s.now = λ j. (c.shared_slice_known-1.given j).fits in
-    ap (λ (x : ℕ). x / 2 ^ (a.at - 8 * i)) c.wide.ensures ∙ rest-law a.s.now i a.at h (omega arith) (omega (arith, st.requires.0, st.requires.1))
+    ap (λ (x : ℕ). x / 2 ^ (a.at - 8 * i)) c.wide.ensures ∙ rest-law a.s.now i a.at h (omega arith) (omega (arith, c.requires.0, c.requires.1))

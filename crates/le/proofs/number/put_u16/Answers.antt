@@ -9,9 +9,8 @@ bounds-d-at-2 c = simp length-set (omega arith)
 
 pub returns : goal.returns
 returns c =
-    let st = c in
-    let d = st.args.d.now in
-    let at = st.args.at in
-    let x = st.args.x in
+    let d = c.args.d.now in
+    let at = c.args.at in
+    let x = c.args.x in
     let h1 = store-first d at x _ c.low.ensures in
     store-more 1 d _ at x _ c.low-2.ensures h1
