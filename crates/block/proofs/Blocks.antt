@@ -10,14 +10,13 @@ use lib.Seq.{sets}
 use lib.Dec.{leb}
 use Rattle.answer.specs.Table.{lengths}
 use Rattle.answer.specs.Refusal.{because}
-use Rattle.answer.specs.Outcome.{refused, ok}
-use Rattle.answer.proofs.Outcomes.{never, ok-inj, refused-inj, met, unmet, need-ok}
+use Rattle.answer.specs.Outcome.{Out, refused, ok}
+use Rattle.answer.proofs.Determined.{answer-one}
+use Rattle.answer.proofs.Outcomes.{ok-inj, met, unmet, need-ok}
 use Rattle.answer.proofs.Both.{both_r}
 use Rattle.block.specs.declared.Block.{Block}
-use Rattle.block.specs.declared.BlockRead.{BlockRead}
-use Rattle.block.specs.declared.BlockRead.TheVariants.{Found, Refused}
 use Rattle.le.specs.Number.{number_at, bytes_of}
-use Rattle.block.specs.Block.{present_at, block_at, said_block, block_head}
+use Rattle.block.specs.Block.{present_at, block_at, block_head}
 use Rattle.le.proofs.Bytes.{length-bytes_of, number-at-append, number-at-bytes_of}
 use Rattle.le.proofs.Stores.{sets-append}
 
@@ -69,14 +68,6 @@ block-fits s at b e = let p = block-says s at b e in rw (← p.1) (present-fits 
 
 -- ---- what is said
 
--- an answer is determined by what it says
-pub said-one : (a b : BlockRead) → said_block a ≡ said_block b → a ≡ b
-unfolding said_block
-said-one (Found a) (Found b) e = ap Found (ok-inj e)
-said-one (Found a) (Refused w) e = absurd (never (sym e))
-said-one (Refused w) (Found b) e = absurd (never e)
-said-one (Refused w) (Refused x) e = ap Refused (refused-inj e)
-
 -- ---- a head that is put
 
 pub length-head : (len kind : ℕ) → length (block_head len kind) ≡ 6
@@ -101,3 +92,7 @@ head-kind len kind r =
     ap₂ (number_at 2) (append_assoc (bytes_of 4 len) (bytes_of 2 kind) r) e
     ∙ number-at-append 2 (bytes_of 4 len) (bytes_of 2 kind ++ r) 0
     ∙ number-at-bytes_of 2 kind r
+
+-- two answers of one place are the same
+pub said-one : {o x y : Out Block} → x ≡ o → y ≡ o → x ≡ y
+said-one = answer-one

@@ -2,10 +2,8 @@
 use Rattle.std.specs.Prelude.{ℕ, ◌+◌, Bool, ◌&&◌, List, ◌++◌, length, leb}
 use Rattle.answer.specs.Table.{lengths}
 use Rattle.answer.specs.Refusal.{because}
-use Rattle.answer.specs.Outcome.{Out, refused, ok, need}
+use Rattle.answer.specs.Outcome.{Out, ok, need}
 use Rattle.block.specs.declared.Block.{Block}
-use Rattle.block.specs.declared.BlockRead.{BlockRead}
-use Rattle.block.specs.declared.BlockRead.TheVariants.{Found, Refused}
 use Rattle.le.specs.Number.{number_at, bytes_of}
 
 -- the bytes of a head: four of the length, two of the kind
@@ -29,11 +27,6 @@ unfoldable pub block_at : List ℕ → ℕ → Out Block
 block_at s at =
     need (present_at s at) (because lengths)
     (ok (record { kind = kind_at s at; body = at + head_bytes; len = len_at s at }))
-
--- what the code's answer says
-unfoldable pub said_block : BlockRead → Out Block
-said_block (Found b) = ok b
-said_block (Refused w) = refused w
 
 -- the head of a block, as bytes
 unfoldable pub block_head : ℕ → ℕ → List ℕ

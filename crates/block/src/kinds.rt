@@ -1,4 +1,4 @@
-// The kinds of blocks.
+// The kinds of blocks. Numbers and no enum: a file may hold any kind, and `put_head` promises to put any.
 
 // The first block of a file, which says its edition.
 pub const FIRST: usize = 1;

@@ -6,7 +6,7 @@ ghost use Rattle.std.proofs.lemmas.List.Edits.{sets};
 ghost use Rattle.answer.specs.Table.{lengths};
 ghost use Rattle.answer.specs.Refusal.{because};
 ghost use Rattle.answer.specs.Outcome.{refused, ok};
-ghost use Rattle.block.specs.Block.{head_bytes, kind_at, present_at, block_at, said_block, block_head};
+ghost use Rattle.block.specs.Block.{head_bytes, kind_at, present_at, block_at, block_head};
 
 use answer::Refusal;
 use answer::table::LENGTHS;
@@ -17,7 +17,7 @@ pub mod kinds;
 // The bytes of a head: four of the length, two of the kind.
 pub const HEAD: usize = 6;
 
-// A block: its kind, the place of its body's first byte, and the body's length.
+// A block: its kind, any number that a file may hold, as `block_at` promises; the place of its body's first byte, and the body's length.
 #[derive(Clone, Copy)]
 pub struct Block {
     pub kind: usize,
@@ -25,36 +25,20 @@ pub struct Block {
     pub len: usize,
 }
 
-// The block that was found, all of it there, or the refusal.
-#[derive(Clone, Copy)]
-pub enum BlockRead {
-    Found(Block),
-    Refused(Refusal),
-}
-
 // A length doesn't fit.
-fn short() -> BlockRead
-    ensures { said_block result ≡ refused (because lengths) }
+fn short() -> Result<Block, Refusal>
+    ensures { result ≡ refused (because lengths) }
 {
-    BlockRead::Refused(Refusal::because(LENGTHS))
+    Err(Refusal::because(LENGTHS))
 }
 
 // Whether a block stands at a place, any place, with all of its body.
+#[tactic(auto, unfolding(crate::specs::Block::present_at))]
 pub fn present(s: &[u8], at: usize) -> bool
     ensures { result ≡ present_at s.now at }
 {
     let n = s.len();
-    if n < HEAD {
-        return false;
-    }
-    if n - HEAD < at {
-        return false;
-    }
-    let body = at + HEAD;
-    if n - body < u32_at(s, at) {
-        return false;
-    }
-    true
+    HEAD <= n && at <= n - HEAD && u32_at(s, at) <= n - (at + HEAD)
 }
 
 // The kind that the head at a place says.
@@ -78,11 +62,11 @@ pub fn block_in(s: &[u8], at: usize) -> Block
 }
 
 // The block whose head stands at a place, any place.
-pub fn block_at(s: &[u8], at: usize) -> BlockRead
-    ensures { said_block result ≡ block_at s.now at }
+pub fn block_at(s: &[u8], at: usize) -> Result<Block, Refusal>
+    ensures { result ≡ block_at s.now at }
 {
     if present(s, at) {
-        return BlockRead::Found(block_in(s, at));
+        return Ok(block_in(s, at));
     }
     short()
 }

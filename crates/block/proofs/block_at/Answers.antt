@@ -1,6 +1,5 @@
 -- `block_at` reads the block where it is present. Assumes nothing.
 use mathlib.Core.Path.{sym, ◌∙◌}
-use Rattle.block.specs.Block.{said_block}
 use Rattle.block.proofs.Blocks.{block-absent}
 use Rattle.block.proofs.block_at.Goals as goal
 
@@ -8,7 +7,6 @@ pub block_in-requires : goal.block_in-requires
 block_in-requires c = sym c.present.ensures ∙ c.if-present.true
 
 pub returns-then-present : goal.returns-then-present
-unfolding said_block
 returns-then-present c = sym c.block_in.ensures
 
 pub returns : goal.returns

@@ -1,18 +1,16 @@
 -- `block_in` reads the block's head. Assumes nothing.
-use Prim.Native.Nat.{◌+◌, ◌≤◌}
 use native.Mathlib.Omega.{arith}
-use lib.ListN.{length}
 use Rattle.block.proofs.Blocks.{present-fits, block-present}
 use Rattle.block.proofs.block_in.Goals as goal
 
 pub kind_at-requires : goal.kind_at-requires
-kind_at-requires c = (let there_is : c.args.at + 6 ≤ length c.args.s.now = omega (arith, present-fits c.args.s.now c.args.at c.requires) in there_is)
+kind_at-requires c = omega (arith, present-fits c.args.s.now c.args.at c.requires)
 
 pub overflow_add-result : goal.overflow_add-result
-overflow_add-result c = omega (arith, (let there_is : c.args.at + 6 ≤ length c.args.s.now = omega (arith, present-fits c.args.s.now c.args.at c.requires) in there_is), c.well_formed.0.0)
+overflow_add-result c = omega (arith, present-fits c.args.s.now c.args.at c.requires, c.well_formed.0.0)
 
 pub u32_at-requires : goal.u32_at-requires
-u32_at-requires c = omega (arith, (let there_is : c.args.at + 6 ≤ length c.args.s.now = omega (arith, present-fits c.args.s.now c.args.at c.requires) in there_is))
+u32_at-requires c = omega (arith, present-fits c.args.s.now c.args.at c.requires)
 
 pub returns : goal.returns
 returns c =
