@@ -3,10 +3,11 @@ use Prim.Native.Nat.{ℕ}
 use mathlib.Core.Path.{◌≡◌, subst}
 use mathlib.Core.List.{List}
 use Rattle.io.specs.Counts.{IsPrefixLen}
-use Rattle.input.specs.declared.Input.{Input}
-use Rattle.input.specs.declared.Input.TheVariants.{Is}
+use Rattle.std.specs.declared.result.Result.{Result}
+use Rattle.std.specs.declared.result.Result.TheVariants.{Ok}
+use Rattle.std.specs.declared.io.Error.{Error}
 use Rattle.input.specs.Within.{Within}
 
-pub within-is : (r : Input) (room : List ℕ) (n : ℕ) → Within r room → r ≡ Is n → IsPrefixLen n room
+pub within-is : (r : Result ℕ Error) (room : List ℕ) (n : ℕ) → Within r room → r ≡ Ok n → IsPrefixLen n room
 unfolding Within
-within-is r room n w e = subst (λ (x : Input). Within x room) e w
+within-is r room n w e = subst (λ (x : Result ℕ Error). Within x room) e w

@@ -4,31 +4,21 @@
 
 ghost use Rattle.input.specs.Within.{Within, Came};
 
-use std::io::{Error, Read};
-
-// What was read: so many bytes at the start of the room, all that there were or the room full; or a read failed, and the error says why.
-#[derive(Clone, Copy)]
-pub enum Input {
-    Is(usize),
-    Broken(Error),
-}
+use std::io::{Read, Result};
 
 // Reads until the room is full, the input ends or a read fails.
-pub fn read_input<R: Read>(source: &mut R, room: &mut [u8]) -> Input
+pub fn read_input<R: Read>(source: &mut R, room: &mut [u8]) -> Result<usize>
     ensures within { Within result room.new }
     ensures came { Came (R.remaining source.old) (R.remaining source.new) result room.new }
 {
+    // The library's reads to an end want a heap (`read_to_end`), or say nothing of what came where the input ends early (`read_exact`).
     let mut done: usize = 0;
     while done < room.len() {
-        match source.read(&mut room[done..]) {
-            Ok(more) => {
-                if more == 0 {
-                    return Input::Is(done);
-                }
-                done += more;
-            }
-            Err(e) => return Input::Broken(e),
+        let more = source.read(&mut room[done..])?;
+        if more == 0 {
+            return Ok(done);
         }
+        done += more;
     }
-    Input::Is(done)
+    Ok(done)
 }

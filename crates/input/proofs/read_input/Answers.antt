@@ -1,5 +1,6 @@
 -- `input::read_input` stays within the room that it is lent, and what came stands at its start. Nothing is assumed.
 use Rattle.std.proofs.Common.{rules, ◌≡◌, ◌-◌, length, arith}
+use Rattle.std.proofs.lemmas.Result.{err_from_is_err_and}
 use Rattle.io.proofs.Counting.{prefix_len_of_le}
 use Rattle.input.specs.Within.{Within, Came}
 use Rattle.input.proofs.Steps.{came_more, came_none, came_kept}
@@ -11,7 +12,7 @@ loop-done-preserved g c =
     let l = c.loop-done in record {
       same_room = search rules;
       fits = search rules;
-      so_far = came_more _ _ _ l.done (length l.room - l.done) c.in-Ok.more l.room c.read.new.buf l.invariant.fits c.in-Ok.ensures.bound.0 l.invariant.so_far c.in-Ok.ensures.bytes.0;
+      so_far = came_more _ _ _ l.done (length l.room - l.done) c.in_ok-more.more l.room c.read.new.buf l.invariant.fits c.in_ok-more.ensures.bound.0 l.invariant.so_far c.in_ok-more.ensures.bytes.0;
     }
 
 pub returns-then-more-eq0-clause-within : goal.returns-then-more-eq0-clause-within
@@ -25,18 +26,19 @@ pub returns-then-more-eq0-clause-came : goal.returns-then-more-eq0-clause-came
 unfolding Came
 returns-then-more-eq0-clause-came g c =
     let l = c.loop-done in
-    let last = came_none _ _ _ l.done (length l.room - l.done) c.in-Ok.more l.room c.read.new.buf l.invariant.fits c.if-more-eq0.true l.invariant.so_far c.in-Ok.ensures.bytes.0 in
-    (last, λ _. c.in-Ok.ensures.bytes.1 c.if-more-eq0.true (search rules))
+    let last = came_none _ _ _ l.done (length l.room - l.done) c.in_ok-more.more l.room c.read.new.buf l.invariant.fits c.if-more-eq0.true l.invariant.so_far c.in_ok-more.ensures.bytes.0 in
+    (last, λ _. c.in_ok-more.ensures.bytes.1 c.if-more-eq0.true (search rules))
 
-pub returns-in-Err-clause-within : goal.returns-in-Err-clause-within
+pub returns-in_err-more-clause-within : goal.returns-in_err-more-clause-within
 unfolding Within
-returns-in-Err-clause-within g c = tt
+returns-in_err-more-clause-within g c = rw (err_from_is_err_and c.from_residual.result c.from_residual.ensures.1).1 tt
 
-pub returns-in-Err-clause-came : goal.returns-in-Err-clause-came
+pub returns-in_err-more-clause-came : goal.returns-in_err-more-clause-came
 unfolding Came
-returns-in-Err-clause-came g c =
+returns-in_err-more-clause-came g c =
     let l = c.loop-done in
-    (l.done, came_kept _ _ _ l.done (length l.room - l.done) l.room c.read.new.buf l.invariant.fits l.invariant.so_far c.in-Err.ensures.bytes)
+    rw (err_from_is_err_and c.from_residual.result c.from_residual.ensures.1).1
+    (l.done, came_kept _ _ _ l.done (length l.room - l.done) l.room c.read.new.buf l.invariant.fits l.invariant.so_far c.in_err-more.ensures.bytes)
 
 pub returns-clause-within : goal.returns-clause-within
 unfolding Within
