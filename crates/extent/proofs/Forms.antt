@@ -8,7 +8,7 @@ use Rattle.extent.specs.declared.bounds.Bounds.{Bounds}
 use Rattle.extent.specs.Boxes.{Words, FiniteBox, patterns, four_finite, in_order, good_form, spot_of}
 use Rattle.extent.specs.Forms.{floats_of, FitsBox, form_of}
 use Rattle.extent.specs.declared.boxes.Box.{Box}
-use Rattle.extent.specs.declared.boxes.Form.TheVariants.{Good, Bad}
+use Rattle.std.specs.declared.option.Option.TheVariants.{Some, None}
 use Rattle.extent.proofs.Ranks.{at-most-refl}
 use Rattle.extent.proofs.Patterns.{bits_back}
 use Rattle.extent.proofs.Finite.{finite-box, four-finite}
@@ -35,30 +35,30 @@ spot-good x y f g =
 
 -- ---- the two ends of the code
 
-pub form-made : (p : Bounds) (b : Box) → good_form p ≡ true → b ≡ floats_of p → Good b ≡ form_of p
+pub form-made : (p : Bounds) (b : Box) → good_form p ≡ true → b ≡ floats_of p → Some b ≡ form_of p
 unfolding form_of
-form-made p b g e = simp g (ap Good e)
+form-made p b g e = simp g (ap Some e)
 
-pub form-not-good : (p : Bounds) → good_form p ≡ false → Bad ≡ form_of p
+pub form-not-good : (p : Bounds) → good_form p ≡ false → None ≡ form_of p
 unfolding form_of
 form-not-good p g = simp g
 
 -- ---- what an answer says
 
 -- whatever the test is that a good form passes
-pub tested-good : (t : Bool) (p : Bounds) (b : Box) → cond t (Good (floats_of p)) Bad ≡ Good b → (t ≡ true) × (b ≡ floats_of p)
+pub tested-good : (t : Bool) (p : Bounds) (b : Box) → cond t (Some (floats_of p)) None ≡ Some b → (t ≡ true) × (b ≡ floats_of p)
 tested-good true p b e = (refl, cc)
 tested-good false p b e = let z : ◌≡◌ {A = ℕ} 0 1 = cc in absurd (omega arith)
 
-pub tested-bad : (t : Bool) (p : Bounds) → cond t (Good (floats_of p)) Bad ≡ Bad → t ≡ false
+pub tested-bad : (t : Bool) (p : Bounds) → cond t (Some (floats_of p)) None ≡ None → t ≡ false
 tested-bad true p e = let z : ◌≡◌ {A = ℕ} 0 1 = cc in absurd (omega arith)
 tested-bad false p e = refl
 
-pub form-good : (p : Bounds) (b : Box) → form_of p ≡ Good b → (good_form p ≡ true) × (b ≡ floats_of p)
+pub form-good : (p : Bounds) (b : Box) → form_of p ≡ Some b → (good_form p ≡ true) × (b ≡ floats_of p)
 unfolding form_of
 form-good p = tested-good (good_form p) p
 
-pub form-bad : (p : Bounds) → form_of p ≡ Bad → good_form p ≡ false
+pub form-bad : (p : Bounds) → form_of p ≡ None → good_form p ≡ false
 unfolding form_of
 form-bad p = tested-bad (good_form p) p
 

@@ -7,8 +7,8 @@ use Rattle.extent.specs.declared.bounds.Bounds.{Bounds}
 use Rattle.extent.specs.Boxes.{FiniteBox, patterns, good_form, same_box, box_of}
 use Rattle.extent.specs.Span.{span_of}
 use Rattle.extent.specs.declared.boxes.Box.{Box}
-use Rattle.extent.specs.declared.boxes.Form.{Form}
-use Rattle.extent.specs.declared.boxes.Form.TheVariants.{Good, Bad}
+use Rattle.std.specs.declared.option.Option.{Option}
+use Rattle.std.specs.declared.option.Option.TheVariants.{Some, None}
 use Rattle.extent.specs.declared.span.Span.{Span}
 
 -- the box of four patterns
@@ -32,8 +32,8 @@ pub record FitsBox (b : Box) : Type 0 where
   pub greatest_y : T (fits binary64 b.greatest_y)
 
 -- the box, if it is of good form, for inner steps; no service speaks of it
-unfoldable pub form_of : Bounds → Form
-form_of p = cond (good_form p) (Good (floats_of p)) Bad
+unfoldable pub form_of : Bounds → Option Box
+form_of p = cond (good_form p) (Some (floats_of p)) None
 
 -- along one axis: both are finite, and least ≤ greatest
 unfoldable pub good_axis : ℕ → ℕ → Bool
@@ -51,7 +51,7 @@ pub record ValueBox (xs ys : List ℕ) (b : Box) : Type 0 where
   pub good : FiniteBox (patterns b)
   pub in_value : same_box (patterns b) (box_of xs ys) ≡ true
 
--- all coordinates are finite, and a form has their box; or else it has none
-abbrev pub ValueForm : List ℕ → List ℕ → Form → Type 0
-ValueForm xs ys (Good b) = ((all_finite xs && all_finite ys) ≡ true) × ValueBox xs ys b
-ValueForm xs ys Bad = (all_finite xs && all_finite ys) ≡ false
+-- all coordinates are finite, and their box is there; or else none is
+abbrev pub ValueForm : List ℕ → List ℕ → Option Box → Type 0
+ValueForm xs ys (Some b) = ((all_finite xs && all_finite ys) ≡ true) × ValueBox xs ys b
+ValueForm xs ys None = (all_finite xs && all_finite ys) ≡ false

@@ -30,27 +30,18 @@ pub fn bounds_at(s: &[u8], at: usize) -> Bounds
 }
 
 // Whether all four are finite.
+#[tactic(auto, unfolding(crate::specs::Boxes::four_finite))]
 pub(crate) fn four_finite(p: Bounds) -> bool
     ensures { result ≡ four_finite p }
 {
-    if finite(p.least_x) {
-        if finite(p.least_y) {
-            if finite(p.greatest_x) {
-                return finite(p.greatest_y);
-            }
-        }
-    }
-    false
+    finite(p.least_x) && finite(p.least_y) && finite(p.greatest_x) && finite(p.greatest_y)
 }
 
 // Whether they are those of a box of good form.
 pub fn good_patterns(p: Bounds) -> bool
     ensures { result ≡ good_form p }
 {
-    if good_axis(p.least_x, p.greatest_x) {
-        return good_axis(p.least_y, p.greatest_y);
-    }
-    false
+    good_axis(p.least_x, p.greatest_x) && good_axis(p.least_y, p.greatest_y)
 }
 
 // The bounds that are stored of vertices, by their x and their y: among equal values the first met; of no vertex, all zero.

@@ -19,33 +19,27 @@ pub struct Box {
 }
 
 // Whether two boxes share a point, edges included.
+#[tactic(auto, unfolding(crate::specs::Boxes::meets))]
 pub fn meets(a: Box, b: Box) -> bool
     requires { FiniteBox (patterns a) × FiniteBox (patterns b) }
     ensures { result ≡ meets (patterns a) (patterns b) }
 {
-    if float_at_most(a.least_x, b.greatest_x) {
-        if float_at_most(b.least_x, a.greatest_x) {
-            if float_at_most(a.least_y, b.greatest_y) {
-                return float_at_most(b.least_y, a.greatest_y);
-            }
-        }
-    }
-    false
+    float_at_most(a.least_x, b.greatest_x)
+        && float_at_most(b.least_x, a.greatest_x)
+        && float_at_most(a.least_y, b.greatest_y)
+        && float_at_most(b.least_y, a.greatest_y)
 }
 
 // Whether two boxes are the same in value.
+#[tactic(auto, unfolding(crate::specs::Boxes::same_box))]
 pub fn same_value(a: Box, b: Box) -> bool
     requires { FiniteBox (patterns a) × FiniteBox (patterns b) }
     ensures { result ≡ same_box (patterns a) (patterns b) }
 {
-    if float_same(a.least_x, b.least_x) {
-        if float_same(a.least_y, b.least_y) {
-            if float_same(a.greatest_x, b.greatest_x) {
-                return float_same(a.greatest_y, b.greatest_y);
-            }
-        }
-    }
-    false
+    float_same(a.least_x, b.least_x)
+        && float_same(a.least_y, b.least_y)
+        && float_same(a.greatest_x, b.greatest_x)
+        && float_same(a.greatest_y, b.greatest_y)
 }
 
 // The box of four finite patterns.
@@ -81,20 +75,13 @@ pub fn box_of(xs: &[u64], ys: &[u64]) -> Box
     box_with(bounds_from(span_of(xs), span_of(ys)))
 }
 
-// A box that came as four patterns, of good form or bad; or that of vertices, where all are finite.
-#[derive(Clone, Copy)]
-pub enum Form {
-    Good(Box),
-    Bad,
-}
-
 // The box of all vertices in value, any patterns: all are finite exactly where the least and the greatest are.
-pub fn box_if_finite(xs: &[u64], ys: &[u64]) -> Form
+pub fn box_if_finite(xs: &[u64], ys: &[u64]) -> Option<Box>
     requires { length ys.now ≡ length xs.now }
     ensures { ValueForm xs.now ys.now result }
 {
     if xs.len() == 0 {
-        return Form::Good(box_with(Bounds {
+        return Some(box_with(Bounds {
             least_x: 0,
             least_y: 0,
             greatest_x: 0,
@@ -103,52 +90,45 @@ pub fn box_if_finite(xs: &[u64], ys: &[u64]) -> Form
     }
     let p = bounds_from(span_of(xs), span_of(ys));
     if four_finite(p) {
-        return Form::Good(box_with(p));
+        return Some(box_with(p));
     }
-    Form::Bad
+    None
 }
 
 // The box of four patterns, any patterns.
-pub fn form_of(p: Bounds) -> Form
+pub fn form_of(p: Bounds) -> Option<Box>
     ensures { result ≡ form_of p }
 {
     if good_patterns(p) {
-        return Form::Good(box_with(p));
+        return Some(box_with(p));
     }
-    Form::Bad
+    None
 }
 
 // Whether the four floats of a box are finite, any floats.
+#[tactic(auto, unfolding(crate::specs::Boxes::four_finite))]
 fn floats_finite(b: Box) -> bool
     ensures { result ≡ four_finite (patterns b) }
 {
-    if finite_float(b.least_x) {
-        if finite_float(b.least_y) {
-            if finite_float(b.greatest_x) {
-                return finite_float(b.greatest_y);
-            }
-        }
-    }
-    false
+    finite_float(b.least_x)
+        && finite_float(b.least_y)
+        && finite_float(b.greatest_x)
+        && finite_float(b.greatest_y)
 }
 
 // Whether a box is not reversed.
+#[tactic(auto, unfolding(crate::specs::Boxes::in_order))]
 fn in_order(b: Box) -> bool
     requires { FiniteBox (patterns b) }
     ensures { result ≡ in_order (patterns b) }
 {
-    if float_at_most(b.least_x, b.greatest_x) {
-        return float_at_most(b.least_y, b.greatest_y);
-    }
-    false
+    float_at_most(b.least_x, b.greatest_x) && float_at_most(b.least_y, b.greatest_y)
 }
 
 // Whether a box of any floats is of good form.
+#[tactic(auto, unfolding(crate::specs::Boxes::good_form))]
 pub fn good_form(b: Box) -> bool
     ensures { result ≡ good_form (patterns b) }
 {
-    if floats_finite(b) {
-        return in_order(b);
-    }
-    false
+    floats_finite(b) && in_order(b)
 }

@@ -33,8 +33,5 @@ pub fn finite_float(x: f64) -> bool
 {
     let least = float_of(0xFFEF_FFFF_FFFF_FFFF);
     let greatest = float_of(0x7FEF_FFFF_FFFF_FFFF);
-    if least <= x {
-        return x <= greatest;
-    }
-    false
+    least <= x && x <= greatest
 }

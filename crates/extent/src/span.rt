@@ -11,23 +11,19 @@ pub struct Span {
 }
 
 // The lower of two numbers.
+#[tactic(auto, unfolding(crate::specs::Span::lower))]
 fn lower(a: u64, v: u64) -> u64
     ensures { result ≡ lower a v }
 {
-    if v < a {
-        return v;
-    }
-    a
+    a.min(v)
 }
 
 // The higher of two numbers.
+#[tactic(auto, unfolding(crate::specs::Span::higher))]
 fn higher(a: u64, v: u64) -> u64
     ensures { result ≡ higher a v }
 {
-    if a < v {
-        return v;
-    }
-    a
+    a.max(v)
 }
 
 // A pattern with its sign bit turned over.
@@ -68,13 +64,10 @@ pub(crate) fn span_of(vs: &[u64]) -> Span
     let mut low = vs[0];
     let mut high = vs[0];
     let mut up = vs[0];
-    let mut i: usize = 1;
-    while i < vs.len() {
-        let v = vs[i];
-        low = lower(low, v);
-        high = higher(high, v);
-        up = higher_flipped(up, v);
-        i += 1;
+    for v in &vs[1..] {
+        low = lower(low, *v);
+        high = higher(high, *v);
+        up = higher_flipped(up, *v);
     }
     Span {
         least: by_sign(high, low, high),
@@ -93,12 +86,10 @@ fn is_zero(b: u64) -> bool
 fn first_zero(vs: &[u64]) -> u64
     ensures { result ≡ first_zero vs.now }
 {
-    let mut i: usize = 0;
-    while i < vs.len() {
-        if is_zero(vs[i]) {
-            return vs[i];
+    for v in vs {
+        if is_zero(*v) {
+            return *v;
         }
-        i += 1;
     }
     0
 }

@@ -47,10 +47,5 @@ pub(crate) fn good_axis(least: u64, greatest: u64) -> bool
 {
     let low = key(least);
     let high = key(greatest);
-    if low <= high {
-        if 0x0010_0000_0000_0000 < low {
-            return high < 0xFFF0_0000_0000_0000;
-        }
-    }
-    false
+    low <= high && 0x0010_0000_0000_0000 < low && high < 0xFFF0_0000_0000_0000
 }

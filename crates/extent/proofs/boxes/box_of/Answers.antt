@@ -6,14 +6,12 @@ use Rattle.extent.proofs.boxes.box_of.Goals as goal
 
 pub box_with-requires : goal.box_with-requires
 box_with-requires c =
-    let s = c in
     subst FiniteBox (sym c.bounds_from.ensures)
-    (spans-finite s.args.xs.now s.args.ys.now _ _ s.requires.0 s.requires.1 c.span_of.ensures c.span_of-2.ensures s.requires.2 s.requires.3)
+    (spans-finite c.args.xs.now c.args.ys.now _ _ c.requires.0 c.requires.1 c.span_of.ensures c.span_of-2.ensures c.requires.2 c.requires.3)
 
 pub returns : goal.returns
 returns c =
-    let s = c in
     let p = c.span_of.ensures in
     let q = c.span_of-2.ensures in
-    let f = spans-finite s.args.xs.now s.args.ys.now _ _ s.requires.0 s.requires.1 p q s.requires.2 s.requires.3 in
-    boxes-made s.args.xs.now s.args.ys.now _ _ s.requires.0 s.requires.1 p q _ f (c.box_with.ensures.1 ∙ c.bounds_from.ensures)
+    let f = spans-finite c.args.xs.now c.args.ys.now _ _ c.requires.0 c.requires.1 p q c.requires.2 c.requires.3 in
+    boxes-made c.args.xs.now c.args.ys.now _ _ c.requires.0 c.requires.1 p q _ f (c.box_with.ensures.1 ∙ c.bounds_from.ensures)

@@ -17,7 +17,7 @@ returns-then-least-x c =
     let greatest = c.float_of-greatest.ensures.0 in
     ap (le x) greatest ∙ within-test x (search rules) (ap (λ (l : Float). le l x) (sym least) ∙ c.if-least-x.true)
 
-pub returns : goal.returns
-returns c =
+pub returns-else-least-x : goal.returns-else-least-x
+returns-else-least-x c =
     let x = c.args.x in
-    outside-test x (search rules) (ap (λ (l : Float). le l x) (sym c.float_of-least.ensures.0) ∙ c.if-least-x.false)
+    c.if-least-x.false ∙ outside-test x (search rules) (ap (λ (l : Float). le l x) (sym c.float_of-least.ensures.0) ∙ c.if-least-x.false)
