@@ -72,6 +72,8 @@ pub fn entry_at(s: &[u8], at: usize, n: u64, m: u64, a: u64) -> Given
 }
 
 // The same without a test for the end, where 17 bytes stand from the entry's first one on: an entry reaches no further.
+// It stands beside the one above and shares no body with it: the full value is read only where it is stored, so a shared body would take that read as a
+// closure, which is no plainer.
 pub fn entry_inside(s: &[u8], at: usize, n: u64, m: u64, a: u64) -> Given
     requires { (n ≤ 64) × (m ≡ marker n) × (at < 2 ^ 62) × (at / 8 + 17 ≤ length s.now) }
     ensures { (result.value ≡ value_at 64 (number s.now) n at a) × (result.next ≡ at + size_at 64 (number s.now) n at) }

@@ -5,23 +5,20 @@ use Rattle.entry.proofs.Reading.{given-short, given-full, size-least}
 use Rattle.entry.proofs.entry_at.Goals as goal
 
 pub overflow_add-p : goal.overflow_add-p
-overflow_add-p c = let st = c in omega (arith, size-least 64 (number st.args.s.now) st.args.n st.args.at, st.requires.2)
+overflow_add-p c = omega (arith, size-least 64 (number c.args.s.now) c.args.n c.args.at, c.requires.2)
 
 pub overflow_add-result : goal.overflow_add-result
 overflow_add-result c =
-    let st = c in
-    let g = given-full 64 (number st.args.s.now) st.args.n st.args.at st.args.a c.field-e.result c.field-e.ensures
-    st.args.m c.window.result st.requires.1 c.if-e-m.false c.window.ensures in
-    omega (arith, g.1, st.requires.2)
+    let g = given-full 64 (number c.args.s.now) c.args.n c.args.at c.args.a c.field-e.result c.field-e.ensures
+    c.args.m c.window.result c.requires.1 c.if-e-m.false c.window.ensures in
+    omega (arith, g.1, c.requires.2)
 
 pub returns-then-e-m : goal.returns-then-e-m
 returns-then-e-m c =
-    let st = c in
-    given-short 64 (number st.args.s.now) st.args.n st.args.at st.args.a c.field-e.result c.field-e.ensures
-    st.args.m c.stepped.result st.requires.1 c.if-e-m.true c.stepped.ensures
+    given-short 64 (number c.args.s.now) c.args.n c.args.at c.args.a c.field-e.result c.field-e.ensures
+    c.args.m c.stepped.result c.requires.1 c.if-e-m.true c.stepped.ensures
 
 pub returns-else-e-m : goal.returns-else-e-m
 returns-else-e-m c =
-    let st = c in
-    given-full 64 (number st.args.s.now) st.args.n st.args.at st.args.a c.field-e.result c.field-e.ensures
-    st.args.m c.window.result st.requires.1 c.if-e-m.false c.window.ensures
+    given-full 64 (number c.args.s.now) c.args.n c.args.at c.args.a c.field-e.result c.field-e.ensures
+    c.args.m c.window.result c.requires.1 c.if-e-m.false c.window.ensures

@@ -5,12 +5,10 @@ use Rattle.entry.proofs.entry_inside.Goals as goal
 
 pub returns-then-e-m : goal.returns-then-e-m
 returns-then-e-m c =
-    let st = c in
-    given-short 64 (number st.args.s.now) st.args.n st.args.at st.args.a c.field_within-e.result c.field_within-e.ensures
-    st.args.m c.stepped.result st.requires.1 c.if-e-m.true c.stepped.ensures
+    given-short 64 (number c.args.s.now) c.args.n c.args.at c.args.a c.field_within-e.result c.field_within-e.ensures
+    c.args.m c.stepped.result c.requires.1 c.if-e-m.true c.stepped.ensures
 
 pub returns-else-e-m : goal.returns-else-e-m
 returns-else-e-m c =
-    let st = c in
-    given-full 64 (number st.args.s.now) st.args.n st.args.at st.args.a c.field_within-e.result c.field_within-e.ensures
-    st.args.m c.window_within.result st.requires.1 c.if-e-m.false c.window_within.ensures
+    given-full 64 (number c.args.s.now) c.args.n c.args.at c.args.a c.field_within-e.result c.field_within-e.ensures
+    c.args.m c.window_within.result c.requires.1 c.if-e-m.false c.window_within.ensures

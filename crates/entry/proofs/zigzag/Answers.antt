@@ -5,13 +5,11 @@ use Rattle.entry.proofs.zigzag.Goals as goal
 
 pub returns-then-d-lt9223372036854775808 : goal.returns-then-d-lt9223372036854775808
 returns-then-d-lt9223372036854775808 c =
-    let st = c in
     let k = c.wrapping_sub_u64-d in
-    zig-low 64 st.args.a st.args.v k.result (sub-law (2 ^ 64) k.result st.args.a st.args.v (omega arith) st.ranges.a.fits k.ensures.value) (omega arith)
+    zig-low 64 c.args.a c.args.v k.result (sub-law (2 ^ 64) k.result c.args.a c.args.v (omega arith) c.ranges.a.fits k.ensures.value) (omega arith)
 
 pub returns-else-d-lt9223372036854775808 : goal.returns-else-d-lt9223372036854775808
 returns-else-d-lt9223372036854775808 c =
-    let st = c in
     let k = c.wrapping_sub_u64-d in
     let l : k.result < 2 ^ 64 = omega arith in
-    zig-high 64 st.args.a st.args.v k.result (sub-law (2 ^ 64) k.result st.args.a st.args.v l st.ranges.a.fits k.ensures.value) (omega arith) l
+    zig-high 64 c.args.a c.args.v k.result (sub-law (2 ^ 64) k.result c.args.a c.args.v l c.ranges.a.fits k.ensures.value) (omega arith) l
