@@ -31,12 +31,9 @@ fn full_steps(vs: &[u64], n: u64, m: u64) -> u64
     }
     let mut count: u64 = 0;
     let mut a = vs[0];
-    let mut i: usize = 1;
-    while i < vs.len() {
-        let v = vs[i];
-        count += full(entry::zigzag(a, v), m);
-        a = v;
-        i += 1;
+    for v in &vs[1..] {
+        count += full(entry::zigzag(a, *v), m);
+        a = *v;
     }
     count
 }
@@ -73,9 +70,7 @@ pub fn choose(vs: &[u64]) -> Choice
         width: 0,
         size: size_at(vs, 0),
     };
-    let mut n: u64 = 0;
-    while n < 64 {
-        n += 1;
+    for n in 1..=64 {
         best = lesser(best, n, size_at(vs, n));
     }
     best

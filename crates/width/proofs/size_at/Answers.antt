@@ -11,22 +11,14 @@ pub returns-then-k-eq0 : goal.returns-then-k-eq0
 returns-then-k-eq0 c = size_none 64 _ _ c.if-k-eq0.true
 
 pub overflow_mul-result : goal.overflow_mul-result
-overflow_mul-result c =
-    let st = c in
-    omega (arith, steps-le st.args.n (length st.args.vs.now) st.requires.0 st.requires.1)
+overflow_mul-result c = omega (arith, steps-le c.args.n (length c.args.vs.now) c.requires.0 c.requires.1)
 
 pub overflow_mul-result-2 : goal.overflow_mul-result-2
-overflow_mul-result-2 c =
-    let st = c in
-    omega (arith, count-le 64 st.args.n st.args.vs.now)
+overflow_mul-result-2 c = omega (arith, count-le 64 c.args.n c.args.vs.now)
 
 pub overflow_add-result : goal.overflow_add-result
-overflow_add-result c =
-    let st = c in
-    omega (arith, count-le 64 st.args.n st.args.vs.now, steps-le st.args.n (length st.args.vs.now) st.requires.0 st.requires.1)
+overflow_add-result c = omega (arith, count-le 64 c.args.n c.args.vs.now, steps-le c.args.n (length c.args.vs.now) c.requires.0 c.requires.1)
 
 pub returns : goal.returns
 unfolding column_size
-returns c =
-    let st = c in
-    ap₂ (λ (k f : ℕ). st.args.n * k + 64 * f) (sym (length-zs 64 st.args.vs.now)) c.full_steps.ensures
+returns c = ap₂ (λ (k f : ℕ). c.args.n * k + 64 * f) (sym (length-zs 64 c.args.vs.now)) c.full_steps.ensures
