@@ -25,14 +25,12 @@ pub fn turn(xs: &[u64], ys: &[u64]) -> i64
     let mut x = whole(xs[0]);
     let mut y = whole(ys[0]);
     let mut sum: i64 = 0;
-    let mut i: usize = 1;
-    while i < xs.len() {
+    for i in 1..xs.len() {
         let next_x = whole(xs[i]);
         let next_y = whole(ys[i]);
         sum = sum + edge(x, y, next_x, next_y);
         x = next_x;
         y = next_y;
-        i += 1;
     }
     sum
 }

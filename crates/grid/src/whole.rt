@@ -42,10 +42,8 @@ pub fn all_on_grid(vs: &[u64]) -> bool
     ensures { result ≡ all_on_grid vs.now }
 {
     let mut off: u64 = 0;
-    let mut i: usize = 0;
-    while i < vs.len() {
-        off = off | off_grid(vs[i]);
-        i += 1;
+    for b in vs {
+        off = off | off_grid(*b);
     }
     off == 0
 }

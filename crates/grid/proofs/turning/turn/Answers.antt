@@ -52,23 +52,23 @@ loop-i-init c =
     turning-first c.args.xs.now c.args.ys.now _ _ (omega arith) c.requires.0 x.0 y.0 x.1 y.1
 
 pub whole-next_x-requires : goal.whole-next_x-requires
-whole-next_x-requires c = all-at on_grid c.args.xs.now c.loop-i.i 0 c.requires.2 (omega arith)
+whole-next_x-requires c = all-at on_grid c.args.xs.now _ 0 c.requires.2 (omega arith)
 
 pub whole-next_y-requires : goal.whole-next_y-requires
-whole-next_y-requires c = all-at on_grid c.args.ys.now c.loop-i.i 0 c.requires.3 (omega (arith, c.requires.0))
-
-pub overflow_add-sum : goal.overflow_add-sum
-overflow_add-sum c =
-    let u = vertex _ _ c.whole-next_x.ensures in
-    let v = vertex _ _ c.whole-next_y.ensures in
-    sum_fits c.args.xs.now c.args.ys.now c.loop-i.i _ _ _ _ _ c.edge-sum.result c.loop-i-test.true c.requires.1 c.loop-i.invariant
-    (turning-more c.args.xs.now c.args.ys.now c.loop-i.i _ _ _ _ _ c.loop-i-test.true c.requires.0 u.0 v.0 u.1 v.1 c.loop-i.invariant) c.edge-sum.ensures
+whole-next_y-requires c = all-at on_grid c.args.ys.now _ 0 c.requires.3 (omega (arith, c.requires.0))
 
 pub loop-i-preserved : goal.loop-i-preserved
 loop-i-preserved c =
     let u = vertex _ _ c.whole-next_x.ensures in
     let v = vertex _ _ c.whole-next_y.ensures in
     again c.args.xs.now c.args.ys.now c.loop-i.i _ _ _ _ _ c.edge-sum.result c.loop-i-test.true c.requires.1 c.loop-i.invariant
+    (turning-more c.args.xs.now c.args.ys.now c.loop-i.i _ _ _ _ _ c.loop-i-test.true c.requires.0 u.0 v.0 u.1 v.1 c.loop-i.invariant) c.edge-sum.ensures
+
+pub overflow_add-sum : goal.overflow_add-sum
+overflow_add-sum c =
+    let u = vertex _ _ c.whole-next_x.ensures in
+    let v = vertex _ _ c.whole-next_y.ensures in
+    sum_fits c.args.xs.now c.args.ys.now c.loop-i.i _ _ _ _ _ c.edge-sum.result c.loop-i-test.true c.requires.1 c.loop-i.invariant
     (turning-more c.args.xs.now c.args.ys.now c.loop-i.i _ _ _ _ _ c.loop-i-test.true c.requires.0 u.0 v.0 u.1 v.1 c.loop-i.invariant) c.edge-sum.ensures
 
 pub returns : goal.returns
