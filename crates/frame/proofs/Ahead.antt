@@ -10,12 +10,9 @@ use Rattle.answer.specs.Outcome.{Out, refused, ok, on}
 use Rattle.answer.proofs.Outcomes.{never, ok-inj, on-ok}
 use Rattle.frame.specs.declared.cursor.Cursor.{Cursor}
 use Rattle.frame.specs.declared.cursor.PageAt.{PageAt}
-use Rattle.frame.specs.declared.walk.Checked.{Checked}
-use Rattle.frame.specs.declared.walk.Checked.TheVariants.{Sound}
 use Rattle.frame.specs.declared.walk.Totals.{Totals}
 use Rattle.frame.specs.Next.{NextBlock, page, end, first_cursor, first_of, next_of, ends_at}
 use Rattle.frame.specs.Frame.{Page, Frame, page_of, walk, frame_of, totals_of}
-use Rattle.frame.specs.Said.{said_checked}
 use Rattle.frame.specs.Ahead.{Ahead, Begun}
 use Rattle.frame.proofs.Found.{page-is, first-is, ends-end, ends-page}
 use Rattle.frame.proofs.Walks.{within_on, fewer-on, fuel, fuel_on, walk_refused, walk_end, walk-page, first-cursor, sound-said}
@@ -41,7 +38,7 @@ ahead-start s f e =
     )
 
 -- what the code was told of a sound frame: its pages are to come from the cursor that it hands back
-pub begun-said : (s : List ℕ) (r : Checked) → said_checked r ≡ on (frame_of s) (λ f. ok (totals_of f)) → (t : Totals) → r ≡ Sound t → Begun s t.first
+pub begun-said : (s : List ℕ) (r : Out Totals) → r ≡ on (frame_of s) (λ f. ok (totals_of f)) → (t : Totals) → r ≡ ok t → Begun s t.first
 begun-said s r q t e =
     let f = sound-said s r q t e in
     let a = ahead-start s f.0 f.1 in

@@ -6,19 +6,15 @@ use native.Mathlib.Omega.{arith}
 use lib.ListN.{length}
 use Rattle.answer.specs.declared.Refusal.{Refusal}
 use Rattle.answer.specs.Outcome.{Out, refused, ok, on}
-use Rattle.answer.proofs.Outcomes.{never, ok-inj, refused-inj, on-ok}
+use Rattle.answer.proofs.Determined.{answer-one}
+use Rattle.answer.proofs.Outcomes.{ok-inj, on-ok}
 use Rattle.answer.proofs.Orders.{on-stopped}
 use Rattle.frame.specs.declared.cursor.Cursor.{Cursor}
 use Rattle.frame.specs.declared.cursor.PageAt.{PageAt}
-use Rattle.frame.specs.declared.walk.FirstRead.{FirstRead}
-use Rattle.frame.specs.declared.walk.FirstRead.TheVariants as first
-use Rattle.frame.specs.declared.walk.Checked.{Checked}
-use Rattle.frame.specs.declared.walk.Checked.TheVariants as checked
 use Rattle.frame.specs.declared.walk.Totals.{Totals}
 use Rattle.frame.specs.Next.{part, NextBlock, page, end, first_cursor, first_of, next_of}
 use Rattle.frame.specs.Frame.{Page, Frame, page_of, walk, frame_of, shapes_of, page_totals, totals_of}
 use Rattle.frame.specs.Ahead.{Within}
-use Rattle.frame.specs.Said.{said_first, said_checked}
 use Rattle.frame.proofs.Heads.{head-is, head-limits}
 use Rattle.frame.proofs.Ways.{first_said, first-refusal-said}
 use Rattle.frame.proofs.Found.{first-is, Paged, page-is}
@@ -121,13 +117,13 @@ count-more s from c p (ok ps) a b =
     λ i. ok (record { pages = m i; shapes = n i; first = from })
 
 module _ (s : List ℕ) (from c : Cursor) (w : Walking s from c) where
-  pub walking-refused : (x : Refusal) → next_of s c ≡ refused x → said_checked (checked.Refused x) ≡ on (walk 1025 s from) (λ ps. ok (page_totals from ps))
-  unfolding said_checked on
+  pub walking-refused : (x : Refusal) → next_of s c ≡ refused x → refused x ≡ on (walk 1025 s from) (λ ps. ok (page_totals from ps))
+  unfolding on
   walking-refused x e = sym (w.same ∙ rw (fuel c w.within, walk_refused s c (1024 - c.pages) x e))
 
   pub walking-end : next_of s c ≡ ok end
-      → said_checked (checked.Sound (record { pages = c.pages; shapes = c.shapes; first = from })) ≡ on (walk 1025 s from) (λ ps. ok (page_totals from ps))
-  unfolding said_checked on shapes_of
+      → ok (record { pages = c.pages; shapes = c.shapes; first = from }) ≡ on (walk 1025 s from) (λ ps. ok (page_totals from ps))
+  unfolding on shapes_of
   walking-end e =
       let m : c.pages + 0 ≡ c.pages = omega arith in
       let n : c.shapes + 0 ≡ c.shapes = omega arith in
@@ -155,18 +151,18 @@ first-cursor s c e =
     let k = (first-is s c e).after in
     k ∙ ap first_cursor (sym (ap (λ (x : Cursor). x.edition) k))
 
-module _ (s : List ℕ) (r : FirstRead) (f : said_first r ≡ first_of s) where
-  pub frame_refused : (w : Refusal) → r ≡ first.Refused w → said_checked (checked.Refused w) ≡ on (frame_of s) (λ f. ok (totals_of f))
-  unfolding said_checked frame_of on
+module _ (s : List ℕ) (r : Out Cursor) (f : r ≡ first_of s) where
+  pub frame_refused : (w : Refusal) → r ≡ refused w → refused w ≡ on (frame_of s) (λ f. ok (totals_of f))
+  unfolding frame_of on
   frame_refused w e = rw (first-refusal-said s r f w e)
 
   -- the walk starts with no page and no shape
-  pub frame-starts : (c : Cursor) → r ≡ first.After c → (c.pages ≡ 0) × (c.shapes ≡ 0)
+  pub frame-starts : (c : Cursor) → r ≡ ok c → (c.pages ≡ 0) × (c.shapes ≡ 0)
   frame-starts c e =
       let k = first-is s c (first_said s r f c e) in
       (ap (λ (x : Cursor). x.pages) k.after, ap (λ (x : Cursor). x.shapes) k.after)
 
-  pub frame-walk : (c : Cursor) → r ≡ first.After c → (x : Out Totals) → x ≡ on (walk 1025 s c) (λ ps. ok (page_totals c ps))
+  pub frame-walk : (c : Cursor) → r ≡ ok c → (x : Out Totals) → x ≡ on (walk 1025 s c) (λ ps. ok (page_totals c ps))
       → x ≡ on (frame_of s) (λ f. ok (totals_of f))
   unfolding frame_of on
   frame-walk c e x q = q ∙ rw (first_said s r f c e) (joined (walk 1025 s c))
@@ -176,21 +172,15 @@ module _ (s : List ℕ) (r : FirstRead) (f : said_first r ≡ first_of s) where
       joined (ok ps) = ap (λ (a : Cursor). ok (page_totals a ps)) (first-cursor s c (first_said s r f c e))
 
 -- what the code was told
-module _ (s : List ℕ) (r : Checked) (q : said_checked r ≡ on (frame_of s) (λ f. ok (totals_of f))) where
-  pub sound-said : (t : Totals) → r ≡ checked.Sound t → (f : Frame) × (frame_of s ≡ ok f) × (totals_of f ≡ t)
-  unfolding said_checked
+module _ (s : List ℕ) (r : Out Totals) (q : r ≡ on (frame_of s) (λ f. ok (totals_of f))) where
+  pub sound-said : (t : Totals) → r ≡ ok t → (f : Frame) × (frame_of s ≡ ok f) × (totals_of f ≡ t)
   sound-said t e =
       let a = on-ok (frame_of s) _ t (sym q ∙ rw e) in
       (a.0, a.1, ok-inj a.2)
 
-  pub frame-refusal-said : (w : Refusal) → r ≡ checked.Refused w → frame_of s ≡ refused w
-  unfolding said_checked
+  pub frame-refusal-said : (w : Refusal) → r ≡ refused w → frame_of s ≡ refused w
   frame-refusal-said w e = on-stopped (frame_of s) totals_of w (sym q ∙ rw e)
 
--- an answer is determined by what it says
-pub said-checked-one : (x y : Checked) → said_checked x ≡ said_checked y → x ≡ y
-unfolding said_checked
-said-checked-one (checked.Sound a) (checked.Sound b) e = ap checked.Sound (ok-inj e)
-said-checked-one (checked.Sound a) (checked.Refused w) e = absurd (never (sym e))
-said-checked-one (checked.Refused w) (checked.Sound b) e = absurd (never e)
-said-checked-one (checked.Refused w) (checked.Refused x) e = ap checked.Refused (refused-inj e)
+-- what a file comes to determines the answer
+pub said-checked-one : {o x y : Out Totals} → x ≡ o → y ≡ o → x ≡ y
+said-checked-one = answer-one

@@ -12,22 +12,17 @@ use Rattle.answer.specs.Table.{many, lengths, kind, counts}
 use Rattle.answer.specs.Refusal.{because}
 use Rattle.answer.specs.Outcome.{Out, refused, ok, on, in_page, marked}
 use Rattle.answer.specs.Rule.{passed}
-use Rattle.answer.proofs.Outcomes.{never, ok-inj, refused-inj, met, unmet}
+use Rattle.answer.proofs.Outcomes.{never, refused-inj, met, unmet}
 use Rattle.answer.proofs.Rules.{passed_on}
 use Rattle.block.specs.declared.Block.{Block}
 use Rattle.le.specs.Number.{number_at}
-use Rattle.block.specs.declared.BlockRead.{BlockRead}
-use Rattle.block.specs.declared.BlockRead.TheVariants as read
-use Rattle.block.specs.Block.{present_at, block_at, said_block}
+use Rattle.block.specs.Block.{present_at, block_at}
 use Rattle.block.proofs.Blocks.{block-absent}
 use Rattle.frame.specs.declared.head.Head.{Head}
 use Rattle.frame.specs.declared.cursor.Cursor.{Cursor}
 use Rattle.frame.specs.declared.cursor.PageAt.{PageAt}
-use Rattle.frame.specs.declared.walk.FirstRead.{FirstRead}
-use Rattle.frame.specs.declared.walk.FirstRead.TheVariants as first
 use Rattle.frame.specs.Head.{head_of}
 use Rattle.frame.specs.Next.{part, NextBlock, page, end, past, as_first, first_of, as_page, as_end, by_kind, next_of}
-use Rattle.frame.specs.Said.{said_first}
 
 -- ---- a page block
 
@@ -107,13 +102,11 @@ module _ (s : List ℕ) (c : Cursor) (b : Block) where
 
 -- ---- the block that the code was given
 
-module _ (s : List ℕ) (at : ℕ) (r : BlockRead) where
-  pub block-said : (b : Block) → said_block r ≡ block_at s at → r ≡ read.Found b → block_at s at ≡ ok b
-  unfolding said_block
+module _ (s : List ℕ) (at : ℕ) (r : Out Block) where
+  pub block-said : (b : Block) → r ≡ block_at s at → r ≡ ok b → block_at s at ≡ ok b
   block-said b f e = sym f ∙ rw e
 
-  pub block_refused : (w : Refusal) → said_block r ≡ block_at s at → r ≡ read.Refused w → block_at s at ≡ refused w
-  unfolding said_block
+  pub block_refused : (w : Refusal) → r ≡ block_at s at → r ≡ refused w → block_at s at ≡ refused w
   block_refused w f e = sym f ∙ rw e
 
 -- ---- a step
@@ -170,16 +163,12 @@ module _ (s : List ℕ) where
 
 -- ---- what the code was told
 
-module _ (s : List ℕ) (r : FirstRead) (f : said_first r ≡ first_of s) where
-  pub first_said : (c : Cursor) → r ≡ first.After c → first_of s ≡ ok c
-  unfolding said_first
+module _ (s : List ℕ) (r : Out Cursor) (f : r ≡ first_of s) where
+  pub first_said : (c : Cursor) → r ≡ ok c → first_of s ≡ ok c
   first_said c e = sym f ∙ rw e
 
-  pub first-refusal-said : (w : Refusal) → r ≡ first.Refused w → first_of s ≡ refused w
-  unfolding said_first
+  pub first-refusal-said : (w : Refusal) → r ≡ refused w → first_of s ≡ refused w
   first-refusal-said w e = sym f ∙ rw e
-
--- ---- an answer is determined by what it says
 
 -- a page is not the end
 pub page-not-end : {p : PageAt} → page p ≡ end → ⊥
@@ -187,10 +176,3 @@ page-not-end e = let z : ◌≡◌ {A = ℕ} 0 1 = cc in omega arith
 
 pub page-inj : {p q : PageAt} → page p ≡ page q → p ≡ q
 page-inj e = cc
-
-pub said-first-one : (x y : FirstRead) → said_first x ≡ said_first y → x ≡ y
-unfolding said_first
-said-first-one (first.After c) (first.After d) e = ap first.After (ok-inj e)
-said-first-one (first.After c) (first.Refused w) e = absurd (never (sym e))
-said-first-one (first.Refused w) (first.After d) e = absurd (never e)
-said-first-one (first.Refused w) (first.Refused x) e = ap first.Refused (refused-inj e)

@@ -3,5 +3,4 @@ pub mod Head
 pub mod Next
 pub mod Frame
 pub mod Ahead
-pub mod Said
 pub mod Whole

@@ -2,7 +2,7 @@
 ghost use Rattle.std.specs.Prelude.{◌≡◌, ◌+◌, ◌≤◌, length};
 ghost use Rattle.answer.specs.Limits.{vertex_limit, most_page_shapes};
 ghost use Rattle.answer.specs.Outcome.{ok};
-ghost use Rattle.answer.specs.Rule.{judged, passed};
+ghost use Rattle.answer.specs.Rule.{passed};
 ghost use Rattle.extent.specs.Boxes.{bounds_at, FiniteBox};
 ghost use Rattle.extent.specs.Forms.{floats_of};
 ghost use Rattle.frame.specs.declared.head.Head.{Head};
@@ -12,7 +12,7 @@ ghost use Rattle.frame.specs.Head.{counts_ok, all_zero, box_ok, sized_head, head
 use crate::layout::{BOUNDS, FIRST, Layout, PARTS, SECOND_SIZE, SHAPES, VERTICES, layout_of};
 use answer::limits::{MOST_PAGE_SHAPES, MOST_VERTICES};
 use answer::table::{BOX_FORM, COUNTS, LENGTHS};
-use answer::{Refusal, Verdict};
+use answer::{Refusal, rule};
 use extent::bounds::{Bounds, bounds_at, good_patterns};
 use extent::boxes::{Box, box_with};
 use le::number::{u16_at, u32_at};
@@ -30,39 +30,19 @@ pub struct Head {
 }
 
 // Whether the counts are within the limits.
+#[tactic(auto, unfolding(crate::specs::Head::counts_ok))]
 pub fn counts_ok(g: usize, v: usize, p: usize) -> bool
     ensures { result ≡ counts_ok g v p }
 {
-    if g < 1 {
-        return false;
-    }
-    if MOST_PAGE_SHAPES < g {
-        return false;
-    }
-    if MOST_VERTICES < v {
-        return false;
-    }
-    if v < p {
-        return false;
-    }
-    if p == 0 {
-        return v == 0;
-    }
-    true
+    1 <= g && g <= MOST_PAGE_SHAPES && v <= MOST_VERTICES && p <= v && (p != 0 || v == 0)
 }
 
 // Whether four patterns are all zero bytes.
+#[tactic(auto, unfolding(crate::specs::Head::all_zero))]
 fn all_zero(p: Bounds) -> bool
     ensures { result ≡ all_zero p }
 {
-    if p.least_x == 0 {
-        if p.least_y == 0 {
-            if p.greatest_x == 0 {
-                return p.greatest_y == 0;
-            }
-        }
-    }
-    false
+    p.least_x == 0 && p.least_y == 0 && p.greatest_x == 0 && p.greatest_y == 0
 }
 
 // Whether the box in a page's body is of the form that v vertices ask for.
@@ -78,36 +58,36 @@ fn box_ok(v: usize, b: &[u8]) -> bool
 }
 
 // The rules of a body whose counts are read: its exact length, then the form of its box.
-fn sized_rules(edition: usize, b: &[u8], g: usize, v: usize, p: usize) -> Verdict
+fn sized_rules(edition: usize, b: &[u8], g: usize, v: usize, p: usize) -> Result<(), Refusal>
     requires { (first_bytes ≤ length b.now) × (g ≤ most_page_shapes) × (p ≤ vertex_limit) }
-    ensures { judged result ≡ passed (sized_head edition b.now g v p) }
+    ensures { result ≡ passed (sized_head edition b.now g v p) }
 {
     let layout = layout_of(edition, g, p);
     let sizes = layout.sizes;
     let columns = layout.columns;
     if b.len() < columns {
-        return Verdict::Refused(Refusal::because(LENGTHS));
+        return Err(Refusal::because(LENGTHS));
     }
     let cx = u32_at(b, sizes);
     let cy = u32_at(b, sizes + SECOND_SIZE);
     if b.len() - columns != cx + cy {
-        return Verdict::Refused(Refusal::because(LENGTHS));
+        return Err(Refusal::because(LENGTHS));
     }
-    Verdict::of(box_ok(v, b), BOX_FORM)
+    rule(box_ok(v, b), BOX_FORM)
 }
 
 // The rules of a page's head, over any bytes for its body.
-pub fn head_rules(edition: usize, b: &[u8]) -> Verdict
-    ensures { judged result ≡ passed (head_of edition b.now) }
+pub fn head_rules(edition: usize, b: &[u8]) -> Result<(), Refusal>
+    ensures { result ≡ passed (head_of edition b.now) }
 {
     if b.len() < FIRST {
-        return Verdict::Refused(Refusal::because(LENGTHS));
+        return Err(Refusal::because(LENGTHS));
     }
     let g = u16_at(b, SHAPES);
     let v = u16_at(b, VERTICES);
     let p = u16_at(b, PARTS);
     if !counts_ok(g, v, p) {
-        return Verdict::Refused(Refusal::because(COUNTS));
+        return Err(Refusal::because(COUNTS));
     }
     sized_rules(edition, b, g, v, p)
 }

@@ -5,23 +5,15 @@ ghost use Rattle.answer.specs.Outcome.{on, ok, refused};
 ghost use Rattle.answer.specs.Refusal.{because};
 ghost use Rattle.frame.specs.Next.{as_first, first_of};
 ghost use Rattle.frame.specs.Frame.{walk, page_totals, frame_of, totals_of};
-ghost use Rattle.frame.specs.Said.{said_first, said_checked};
 
 use crate::cursor::Cursor;
 use crate::layout::EDITION;
 use crate::read::{at_end, glance};
 use crate::rules::block_rules;
-use answer::{Refusal, Verdict};
+use answer::Refusal;
 use block::kinds::FIRST;
-use block::{Block, BlockRead, block_at};
+use block::{Block, block_at};
 use le::number::u16_at;
-
-// The cursor after the first block, or the refusal.
-#[derive(Clone, Copy)]
-pub(crate) enum FirstRead {
-    After(Cursor),
-    Refused(Refusal),
-}
 
 // How many pages and shapes a file has, and the cursor after its first block, from which its pages are walked again.
 #[derive(Clone, Copy)]
@@ -31,24 +23,17 @@ pub struct Totals {
     pub first: Cursor,
 }
 
-// The totals of a file that is sound, in its frame or, by the full check, in all; or the refusal.
-#[derive(Clone, Copy)]
-pub enum Checked {
-    Sound(Totals),
-    Refused(Refusal),
-}
-
 // Refused by a number.
-fn refused(number: u8) -> FirstRead
-    ensures { said_first result ≡ refused (because number) }
+fn refused(number: u8) -> Result<Cursor, Refusal>
+    ensures { result ≡ refused (because number) }
 {
-    FirstRead::Refused(Refusal::because(number))
+    Err(Refusal::because(number))
 }
 
 // The first block, once it is found.
-fn first_step(s: &[u8], b: Block) -> FirstRead
+fn first_step(s: &[u8], b: Block) -> Result<Cursor, Refusal>
     requires { b.body + b.len ≤ length s.now }
-    ensures { said_first result ≡ as_first s.now b }
+    ensures { result ≡ as_first s.now b }
 {
     let kind = b.kind;
     let body = b.body;
@@ -63,7 +48,7 @@ fn first_step(s: &[u8], b: Block) -> FirstRead
     if edition != EDITION {
         return refused(answer::table::KIND);
     }
-    FirstRead::After(Cursor {
+    Ok(Cursor {
         edition,
         at: body + 2,
         pages: 0,
@@ -72,27 +57,23 @@ fn first_step(s: &[u8], b: Block) -> FirstRead
 }
 
 // The first block of a file, any bytes.
-fn first(s: &[u8]) -> FirstRead
-    ensures { said_first result ≡ first_of s.now }
+fn first(s: &[u8]) -> Result<Cursor, Refusal>
+    ensures { result ≡ first_of s.now }
 {
-    match block_at(s, 0) {
-        BlockRead::Refused(w) => FirstRead::Refused(w),
-        BlockRead::Found(b) => first_step(s, b),
-    }
+    let b = block_at(s, 0)?;
+    first_step(s, b)
 }
 
 // The walk from a cursor to the end.
-fn walk_from(s: &[u8], from: Cursor) -> Checked
+fn walk_from(s: &[u8], from: Cursor) -> Result<Totals, Refusal>
     requires { (from.pages ≡ 0) × (from.shapes ≡ 0) }
-    ensures { said_checked result ≡ on (walk (suc most_pages) s.now from) (λ ps. ok (page_totals from ps)) }
+    ensures { result ≡ on (walk (suc most_pages) s.now from) (λ ps. ok (page_totals from ps)) }
 {
     let mut c = from;
     loop {
-        if let Verdict::Refused(w) = block_rules(s, c) {
-            return Checked::Refused(w);
-        }
+        block_rules(s, c)?;
         if at_end(s, c) {
-            return Checked::Sound(Totals {
+            return Ok(Totals {
                 pages: c.pages,
                 shapes: c.shapes,
                 first: from,
@@ -104,11 +85,9 @@ fn walk_from(s: &[u8], from: Cursor) -> Checked
 }
 
 // The frame of a file, any bytes.
-pub fn frame(s: &[u8]) -> Checked
-    ensures { said_checked result ≡ on (frame_of s.now) (λ f. ok (totals_of f)) }
+pub fn frame(s: &[u8]) -> Result<Totals, Refusal>
+    ensures { result ≡ on (frame_of s.now) (λ f. ok (totals_of f)) }
 {
-    match first(s) {
-        FirstRead::Refused(w) => Checked::Refused(w),
-        FirstRead::After(c) => walk_from(s, c),
-    }
+    let c = first(s)?;
+    walk_from(s, c)
 }

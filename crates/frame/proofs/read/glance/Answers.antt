@@ -1,47 +1,42 @@
 -- `glance` reads the few numbers of a page that has passed in the file's own bytes. Assumes nothing.
-use Prim.Native.Nat.{◌+◌, ◌≤◌}
 use native.Mathlib.Omega.{arith}
-use lib.ListN.{length}
 use Rattle.frame.proofs.Reading.{page-reaches, page-length, page-ends, page-shapes, page-finite, page-few, glance-is}
 use Rattle.frame.proofs.read.glance.Goals as goal
 
 pub overflow_add-body : goal.overflow_add-body
-overflow_add-body c = omega (arith, (let reach_is : c.args.c.at + 52 ≤ length c.args.s.now = page-reaches _ _ _ c.requires.1.1 in reach_is), c.well_formed.0.0)
+overflow_add-body c = omega (arith, page-reaches _ _ _ c.requires.1.1, c.well_formed.0.0)
 
 pub overflow_add-body-2 : goal.overflow_add-body-2
-overflow_add-body-2 c = omega (arith, (let reach_is : c.args.c.at + 52 ≤ length c.args.s.now = page-reaches _ _ _ c.requires.1.1 in reach_is), c.well_formed.0.0)
+overflow_add-body-2 c = omega (arith, page-reaches _ _ _ c.requires.1.1, c.well_formed.0.0)
 
 pub u16_at-requires : goal.u16_at-requires
-u16_at-requires c = omega (arith, (let reach_is : c.args.c.at + 52 ≤ length c.args.s.now = page-reaches _ _ _ c.requires.1.1 in reach_is))
+u16_at-requires c = omega (arith, page-reaches _ _ _ c.requires.1.1)
 
 pub overflow_add-body-3 : goal.overflow_add-body-3
-overflow_add-body-3 c = omega (arith, (let reach_is : c.args.c.at + 52 ≤ length c.args.s.now = page-reaches _ _ _ c.requires.1.1 in reach_is), c.well_formed.0.0)
+overflow_add-body-3 c = omega (arith, page-reaches _ _ _ c.requires.1.1, c.well_formed.0.0)
 
 pub box_at-requires : goal.box_at-requires
-box_at-requires c = (omega (arith, (let reach_is : c.args.c.at + 52 ≤ length c.args.s.now = page-reaches _ _ _ c.requires.1.1 in reach_is)), page-finite _ _ _ c.requires.1.1)
+box_at-requires c = (omega (arith, page-reaches _ _ _ c.requires.1.1), page-finite _ _ _ c.requires.1.1)
 
 pub u32_at-requires : goal.u32_at-requires
-u32_at-requires c = omega (arith, (let reach_is : c.args.c.at + 52 ≤ length c.args.s.now = page-reaches _ _ _ c.requires.1.1 in reach_is))
+u32_at-requires c = omega (arith, page-reaches _ _ _ c.requires.1.1)
 
 pub overflow_add-result : goal.overflow_add-result
-overflow_add-result c =
-    let s = c in
-    omega (arith, c.u32_at.ensures.0, page-length _ _ _ s.requires.1.1, page-ends _ _ _ s.requires.1.1, s.well_formed.0.0)
+overflow_add-result c = omega (arith, c.u32_at.ensures.0, page-length _ _ _ c.requires.1.1, page-ends _ _ _ c.requires.1.1, c.well_formed.0.0)
 
 pub overflow_add-result-2 : goal.overflow_add-result-2
 overflow_add-result-2 c = omega (arith, (page-few _ _ _ c.requires.1.1).1)
 
 pub overflow_add-body-4 : goal.overflow_add-body-4
-overflow_add-body-4 c = omega (arith, (let reach_is : c.args.c.at + 52 ≤ length c.args.s.now = page-reaches _ _ _ c.requires.1.1 in reach_is), c.well_formed.0.0)
+overflow_add-body-4 c = omega (arith, page-reaches _ _ _ c.requires.1.1, c.well_formed.0.0)
 
 pub u16_at-requires-2 : goal.u16_at-requires-2
-u16_at-requires-2 c = omega (arith, (let reach_is : c.args.c.at + 52 ≤ length c.args.s.now = page-reaches _ _ _ c.requires.1.1 in reach_is))
+u16_at-requires-2 c = omega (arith, page-reaches _ _ _ c.requires.1.1)
 
 pub overflow_add-result-3 : goal.overflow_add-result-3
 overflow_add-result-3 c =
-    let s = c in
-    let f = page-few _ _ _ s.requires.1.1 in
-    omega (arith, c.u16_at-2.ensures.0, page-shapes _ _ _ s.requires.1.1, f.0, f.1, s.requires.0)
+    let f = page-few _ _ _ c.requires.1.1 in
+    omega (arith, c.u16_at-2.ensures.0, page-shapes _ _ _ c.requires.1.1, f.0, f.1, c.requires.0)
 
 pub returns : goal.returns
 returns c =

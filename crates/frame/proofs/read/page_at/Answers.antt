@@ -1,8 +1,6 @@
 -- `page_at` reads the page's length and its head, in the part of the file that is its body. Assumes nothing.
-use Prim.Native.Nat.{◌+◌, ◌≤◌}
 use mathlib.Core.Path.{sym, ap, ◌∙◌}
 use native.Mathlib.Omega.{arith}
-use lib.ListN.{length}
 use Rattle.answer.proofs.Outcomes.{ok-inj}
 use Rattle.frame.specs.declared.head.Head.{Head}
 use Rattle.frame.proofs.Reading.{page-reaches, page-length, page-ends, page-few, page-head, page-read}
@@ -15,10 +13,10 @@ pub u32_at-len-requires : goal.u32_at-len-requires
 u32_at-len-requires c = omega (arith, page-reaches _ _ _ c.requires.1.1)
 
 pub overflow_add-end : goal.overflow_add-end
-overflow_add-end c = omega (arith, (let ends_is : c.args.c.at + 6 + c.u32_at-len.result ≤ length c.args.s.now = let s = c in omega (arith, c.u32_at-len.ensures.0, page-length _ _ _ s.requires.1.1, page-ends _ _ _ s.requires.1.1) in ends_is), c.well_formed.0.0)
+overflow_add-end c = omega (arith, c.u32_at-len.ensures.0, page-length _ _ _ c.requires.1.1, page-ends _ _ _ c.requires.1.1, c.well_formed.0.0)
 
 pub slice_bounds-read_head-end : goal.slice_bounds-read_head-end
-slice_bounds-read_head-end c = (let ends_is : c.args.c.at + 6 + c.u32_at-len.result ≤ length c.args.s.now = let s = c in omega (arith, c.u32_at-len.ensures.0, page-length _ _ _ s.requires.1.1, page-ends _ _ _ s.requires.1.1) in ends_is)
+slice_bounds-read_head-end c = omega (arith, c.u32_at-len.ensures.0, page-length _ _ _ c.requires.1.1, page-ends _ _ _ c.requires.1.1)
 
 pub read_head-head-requires : goal.read_head-head-requires
 read_head-head-requires c = (_, page-head _ _ _ c.requires.1.1 _ c.u32_at-len.ensures.0)
@@ -28,13 +26,10 @@ overflow_add-result c = omega (arith, (page-few _ _ _ c.requires.1.1).1)
 
 pub overflow_add-result-2 : goal.overflow_add-result-2
 overflow_add-result-2 c =
-    let s = c in
-    let e = s.requires.1.1 in
+    let e = c.requires.1.1 in
     let f = page-few _ _ _ e in
     let g = ap (λ (h : Head). h.g) (ok-inj (sym c.read_head-head.ensures ∙ page-head _ _ _ e _ c.u32_at-len.ensures.0)) in
-    omega (arith, g, f.0, f.1, s.requires.0)
+    omega (arith, g, f.0, f.1, c.requires.0)
 
 pub returns : goal.returns
-returns c =
-    let s = c in
-    page-read _ _ _ s.requires.1.1 _ _ c.u32_at-len.ensures.0 c.read_head-head.ensures
+returns c = page-read _ _ _ c.requires.1.1 _ _ c.u32_at-len.ensures.0 c.read_head-head.ensures

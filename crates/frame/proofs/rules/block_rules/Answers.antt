@@ -18,7 +18,7 @@ kind_rules-requires c = block-fits _ _ _ c.block_in.ensures
 pub returns-then-present : goal.returns-then-present
 returns-then-present c =
     let k = c.args.c.pages in
-    c.on_page.ensures
+    c.in_page.ensures
     ∙ ap (in_page k) c.kind_rules.ensures
     ∙ sym (passed-marked (on_page k) _)
     ∙ ap passed (sym (step-found _ _ _ c.block_in.ensures))
@@ -26,7 +26,7 @@ returns-then-present c =
 pub returns : goal.returns
 returns c =
     let k = c.args.c.pages in
-    c.on_page-2.ensures
+    c.in_page-2.ensures
     ∙ ap (in_page k) (passed-because lengths _ c.because.ensures refl)
     ∙ sym (passed-marked (on_page k) _)
     ∙ ap passed (sym (step-absent _ _ (sym c.present.ensures ∙ c.if-present.false)))

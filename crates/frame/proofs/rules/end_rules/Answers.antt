@@ -22,7 +22,7 @@ pub returns : goal.returns
 returns c =
     let e = c in
     let d = e in
-    c.of.ensures
+    c.rule.ensures
     ∙ rule-passed _ lengths _
     (λ t. (_, end-good _ _ _ d.if-len-ne8.false _ d.u32_at.ensures.0 e.if-u32_at-pages.false _ e.u32_at-2.ensures.0 c.if-u32_at-shapes.false (eqb-true _ _ t)))
     (λ f. end_after _ _ _ d.if-len-ne8.false _ d.u32_at.ensures.0 e.if-u32_at-pages.false _ e.u32_at-2.ensures.0 c.if-u32_at-shapes.false (eqb-false _ _ f))

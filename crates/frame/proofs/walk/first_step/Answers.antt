@@ -1,6 +1,5 @@
 -- `first_step` says what `as_first` does, by each of its ways. Assumes nothing.
 use mathlib.Core.Path.{sym, ◌∙◌}
-use Rattle.frame.specs.Said.{said_first}
 use Rattle.frame.proofs.Ways.{first_kind, first-length, first-edition, first_good}
 use Rattle.frame.proofs.walk.first_step.Goals as goal
 
@@ -16,5 +15,4 @@ returns-then-edition-ne-EDITION c =
     ∙ sym (first-edition _ _ c.if-kind-ne-FIRST.false c.if-len-ne2.false _ (sym c.u16_at-edition.ensures.0) c.if-edition-ne-EDITION.true)
 
 pub returns : goal.returns
-unfolding said_first
 returns c = sym (first_good _ _ c.if-kind-ne-FIRST.false c.if-len-ne2.false _ (sym c.u16_at-edition.ensures.0) c.if-edition-ne-EDITION.false)

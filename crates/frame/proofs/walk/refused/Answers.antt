@@ -1,9 +1,7 @@
 -- `refused` says the refusal of its number. Assumes nothing.
 use mathlib.Core.Path.{ap}
 use Rattle.answer.specs.Outcome.{refused}
-use Rattle.frame.specs.Said.{said_first}
 use Rattle.frame.proofs.walk.refused.Goals as goal
 
 pub returns : goal.returns
-unfolding said_first
 returns c = ap refused c.because.ensures

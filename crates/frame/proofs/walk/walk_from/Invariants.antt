@@ -4,8 +4,8 @@ use Prim.Native.Nat.{◌-◌}
 use Rattle.frame.proofs.Walks.{Walking}
 use Rattle.frame.proofs.walk.walk_from.Given as goal
 
-abbrev pub invariant-loop-w : goal.invariant-loop-w
-invariant-loop-w l = Walking l.s l.from l.c
+abbrev pub invariant-loop-l : goal.invariant-loop-l
+invariant-loop-l l = Walking l.s l.from l.c
 
-abbrev pub decreases-loop-w : goal.decreases-loop-w
-decreases-loop-w l = 1025 - l.c.pages
+abbrev pub decreases-loop-l : goal.decreases-loop-l
+decreases-loop-l l = 1025 - l.c.pages
