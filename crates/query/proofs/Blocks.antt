@@ -13,13 +13,14 @@ use Rattle.answer.specs.declared.Refusal.{Refusal}
 use Rattle.answer.specs.Table.{query}
 use Rattle.answer.specs.Refusal.{because}
 use Rattle.answer.specs.Outcome.{Out, refused, ok, on, need}
-use Rattle.answer.proofs.Outcomes.{never, ok-inj, refused-inj, met, unmet}
+use Rattle.answer.proofs.Determined.{answer-one}
+use Rattle.answer.proofs.Outcomes.{met, unmet}
 use Rattle.answer.proofs.Both.{and-false}
 use Rattle.block.specs.declared.Block.{Block}
 use Rattle.le.specs.Number.{number_at}
 use Rattle.block.specs.Block.{block_at}
 use Rattle.extent.specs.declared.boxes.Box.{Box}
-use Rattle.extent.specs.declared.boxes.Form.TheVariants.{Good, Bad}
+use Rattle.std.specs.declared.option.Option.TheVariants.{Some, None}
 use Rattle.extent.specs.Rank.{finite}
 use Rattle.extent.specs.declared.bounds.Bounds.{Bounds}
 use Rattle.extent.specs.Boxes.{bounds_at}
@@ -27,11 +28,7 @@ use Rattle.extent.specs.Forms.{floats_of, form_of}
 use Rattle.extent.proofs.Forms.{form-good, form-bad}
 use Rattle.query.specs.declared.ask.Ask.{Ask}
 use Rattle.query.specs.declared.ask.Query.TheVariants.{Everything, Spot, Window}
-use Rattle.query.specs.declared.query_block.BlockLen.{BlockLen}
-use Rattle.query.specs.declared.query_block.BlockLen.TheVariants as len
-use Rattle.query.specs.declared.query_block.AskRead.{AskRead}
-use Rattle.query.specs.declared.query_block.AskRead.TheVariants as read
-use Rattle.query.specs.Block.{instead, body_len, len_of, block_len, said_len, spot_asked, window_asked, asked, ask_of, said_ask}
+use Rattle.query.specs.Block.{instead, body_len, len_of, block_len, spot_asked, window_asked, asked, ask_of}
 
 -- ---- the body's length
 
@@ -109,7 +106,7 @@ pub spot-not : (x y : ℕ) → (finite x && finite y) ≡ false → spot_asked x
 unfolding spot_asked
 spot-not x y f = unmet (because query) (ok (record { query = Spot (of_bits binary64 x) (of_bits binary64 y) })) f
 
-pub window-made : (p : Bounds) (b : Box) → form_of p ≡ Good b → ok (record { query = Window b }) ≡ window_asked p
+pub window-made : (p : Bounds) (b : Box) → form_of p ≡ Some b → ok (record { query = Window b }) ≡ window_asked p
 unfolding window_asked
 window-made p b e =
     let g = form-good p b e in
@@ -118,7 +115,7 @@ window-made p b e =
     window : Box → Ask
     window k = record { query = Window k }
 
-pub window-not : (p : Bounds) → form_of p ≡ Bad → window_asked p ≡ refused (because query)
+pub window-not : (p : Bounds) → form_of p ≡ None → window_asked p ≡ refused (because query)
 unfolding window_asked
 window-not p e = unmet (because query) (ok (record { query = Window (floats_of p) })) (form-bad p e)
 
@@ -154,18 +151,6 @@ module _ (s : List ℕ) where
   unfolding ask_of on
   ask-refused w e = ap (λ (o : Out ℕ). on o (λ k. need (eqb k (length s)) (because query) (asked s))) e
 
--- ---- answers are determined by what they say
-
-pub said-len-one : (a b : BlockLen) → said_len a ≡ said_len b → a ≡ b
-unfolding said_len
-said-len-one (len.Is a) (len.Is b) e = ap len.Is (ok-inj e)
-said-len-one (len.Is a) (len.Refused w) e = absurd (never (sym e))
-said-len-one (len.Refused w) (len.Is b) e = absurd (never e)
-said-len-one (len.Refused w) (len.Refused x) e = ap len.Refused (refused-inj e)
-
-pub said-one : (a b : AskRead) → said_ask a ≡ said_ask b → a ≡ b
-unfolding said_ask
-said-one (read.Asked a) (read.Asked b) e = ap read.Asked (ok-inj e)
-said-one (read.Asked a) (read.Refused w) e = absurd (never (sym e))
-said-one (read.Refused w) (read.Asked b) e = absurd (never e)
-said-one (read.Refused w) (read.Refused x) e = ap read.Refused (refused-inj e)
+-- two answers of one block are the same
+pub said-one : {o x y : Out Ask} → x ≡ o → y ≡ o → x ≡ y
+said-one = answer-one

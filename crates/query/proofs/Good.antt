@@ -24,9 +24,7 @@ use Rattle.extent.proofs.Floats.{float-finite, floats-good}
 use Rattle.query.specs.declared.ask.Ask.{Ask}
 use Rattle.query.specs.declared.ask.Query.TheVariants.{Everything}
 use Rattle.query.specs.Ask.{good_query}
-use Rattle.query.specs.declared.query_block.AskRead.{AskRead}
-use Rattle.query.specs.declared.query_block.AskRead.TheVariants.{Asked}
-use Rattle.query.specs.Block.{instead, body_len, len_of, block_len, spot_asked, window_asked, asked, ask_of, said_ask}
+use Rattle.query.specs.Block.{instead, body_len, len_of, block_len, spot_asked, window_asked, asked, ask_of}
 use Rattle.query.specs.Accepted.{Fronts, Accepts}
 use Rattle.query.proofs.Blocks.{len_is, block-found, ask-exactly, body-most}
 
@@ -68,9 +66,8 @@ ask-sound s a e =
     asked-sound s a (need-ok (eqb w.0 (length s)) (because query) (asked s) a w.2).1
 
 -- as the code reads it
-pub read-sound : (s : List ℕ) (r : AskRead) (a : Ask) → said_ask r ≡ ask_of s → r ≡ Asked a → good_query a.query ≡ true
-unfolding said_ask
-read-sound s r a e h = ask-sound s a (sym e ∙ ap said_ask h)
+pub read-sound : (s : List ℕ) (r : Out Ask) (a : Ask) → r ≡ ask_of s → r ≡ ok a → good_query a.query ≡ true
+read-sound s r a e h = ask-sound s a (sym e ∙ h)
 
 -- ---- the block that is found
 

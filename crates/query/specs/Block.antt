@@ -18,10 +18,6 @@ use Rattle.extent.specs.Forms.{floats_of}
 use Rattle.query.specs.declared.ask.Ask.{Ask}
 use Rattle.query.specs.declared.ask.Query.{Query}
 use Rattle.query.specs.declared.ask.Query.TheVariants.{Everything, Spot, Window}
-use Rattle.query.specs.declared.query_block.BlockLen.{BlockLen}
-use Rattle.query.specs.declared.query_block.BlockLen.TheVariants as len
-use Rattle.query.specs.declared.query_block.AskRead.{AskRead}
-use Rattle.query.specs.declared.query_block.AskRead.TheVariants as read
 
 -- the same, whatever refusal being this one
 unfoldable pub instead : {A : Type 0} → Refusal → Out A → Out A
@@ -50,11 +46,6 @@ len_of b = need (eqb b.kind kinds.query && body_len b.len) (because query) (ok (
 unfoldable pub block_len : List ℕ → Out ℕ
 block_len s = on (instead (because query) (block_at s 0)) len_of
 
--- what the code's answer says
-unfoldable pub said_len : BlockLen → Out ℕ
-said_len (len.Is n) = ok n
-said_len (len.Refused w) = refused w
-
 -- ---- what a block asks
 
 -- a spot, if its patterns are finite
@@ -75,11 +66,6 @@ asked s =
 -- what the bytes of exactly a query block ask
 unfoldable pub ask_of : List ℕ → Out Ask
 ask_of s = on (block_len s) (λ n. need (eqb n (length s)) (because query) (asked s))
-
--- what the code's answer says
-unfoldable pub said_ask : AskRead → Out Ask
-said_ask (read.Asked a) = ok a
-said_ask (read.Refused w) = refused w
 
 -- ---- the block of a query, as bytes
 

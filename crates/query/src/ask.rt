@@ -1,13 +1,13 @@
 // What a searcher asks, and what it meets.
 ghost use Rattle.std.specs.Prelude.{◌≡◌, true, ◌&&◌, length};
 ghost use Rattle.answer.specs.Table.{query};
-ghost use Rattle.answer.specs.Rule.{rule, judged};
+ghost use Rattle.answer.specs.Rule.{rule};
 ghost use Rattle.extent.specs.Rank.{finite, all_finite};
 ghost use Rattle.extent.specs.Boxes.{pattern_of, patterns, FiniteBox, spot_of};
 ghost use Rattle.query.specs.Ask.{good_query, reach_of, stored, in_window, hit, opens};
 
-use answer::Verdict;
 use answer::table::QUERY;
+use answer::{Refusal, rule};
 use extent::boxes::{Box, box_of, good_form, meets};
 use extent::rank::finite_float;
 
@@ -29,10 +29,7 @@ pub struct Ask {
 fn spot_finite(x: f64, y: f64) -> bool
     ensures { result ≡ (finite (pattern_of x) && finite (pattern_of y)) }
 {
-    if finite_float(x) {
-        return finite_float(y);
-    }
-    false
+    finite_float(x) && finite_float(y)
 }
 
 // Whether a query's coordinates are finite and least ≤ greatest, any floats.
@@ -47,11 +44,11 @@ pub fn good_query(q: Query) -> bool
 }
 
 // The first rule of a search: the query is good.
-pub fn judge(a: Ask) -> Verdict
-    ensures { judged result ≡ rule (good_query a.query) query }
+pub fn judge(a: Ask) -> Result<(), Refusal>
+    ensures { result ≡ rule (good_query a.query) query }
 {
     let q = a.query;
-    Verdict::of(good_query(q), QUERY)
+    rule(good_query(q), QUERY)
 }
 
 // A spot is a window of one point.
@@ -71,10 +68,7 @@ fn shape_in(w: Box, xs: &[u64], ys: &[u64]) -> bool
     requires { FiniteBox (patterns w) × (length ys.now ≡ length xs.now) × (all_finite xs.now ≡ true) × (all_finite ys.now ≡ true) }
     ensures { result ≡ in_window (patterns w) (reach_of xs.now ys.now) }
 {
-    if 0 < xs.len() {
-        return meets(w, box_of(xs, ys));
-    }
-    false
+    0 < xs.len() && meets(w, box_of(xs, ys))
 }
 
 // Whether a page of v vertices and a stored box meets a window.
@@ -82,10 +76,7 @@ fn page_in(w: Box, v: usize, b: Box) -> bool
     requires { FiniteBox (patterns w) × FiniteBox (patterns b) }
     ensures { result ≡ in_window (patterns w) (stored v (patterns b)) }
 {
-    if 0 < v {
-        return meets(w, b);
-    }
-    false
+    0 < v && meets(w, b)
 }
 
 // Whether what is asked meets a shape, by the x and the y of its vertices.

@@ -6,14 +6,14 @@ ghost use Rattle.answer.specs.Outcome.{refused};
 ghost use Rattle.block.specs.Block.{head_bytes};
 ghost use Rattle.extent.specs.Rank.{finite};
 ghost use Rattle.extent.specs.Boxes.{bounds_at};
-ghost use Rattle.query.specs.Block.{window_bytes, body_len, len_of, block_len, said_len, spot_asked, window_asked, asked, ask_of, said_ask};
+ghost use Rattle.query.specs.Block.{window_bytes, body_len, len_of, block_len, spot_asked, window_asked, asked, ask_of};
 
 use crate::ask::{Ask, Query};
 use answer::Refusal;
 use answer::table::QUERY;
-use block::{Block, BlockRead, HEAD, block_at};
+use block::{Block, HEAD, block_at};
 use extent::bounds::bounds_at;
-use extent::boxes::{Form, form_of};
+use extent::boxes::form_of;
 use extent::rank::{finite, float_of};
 use le::number::u64_at;
 
@@ -22,88 +22,62 @@ const SPOT: usize = 16;
 
 const WINDOW: usize = 32;
 
-// The bytes that a query block takes, or the refusal.
-#[derive(Clone, Copy)]
-pub enum BlockLen {
-    Is(usize),
-    Refused(Refusal),
-}
-
-// What a query block asks, or the refusal.
-#[derive(Clone, Copy)]
-pub enum AskRead {
-    Asked(Ask),
-    Refused(Refusal),
-}
-
 // The body is empty, or 16 or 32 bytes.
+#[tactic(auto, unfolding(crate::specs::Block::body_len))]
 fn body_len(n: usize) -> bool
     ensures { result ≡ body_len n }
 {
-    if n == 0 {
-        return true;
-    }
-    if n == SPOT {
-        return true;
-    }
-    n == WINDOW
+    n == 0 || n == SPOT || n == WINDOW
 }
 
 // No query block.
-fn no_block() -> BlockLen
-    ensures { said_len result ≡ refused (because query) }
+fn no_block() -> Result<usize, Refusal>
+    ensures { result ≡ refused (because query) }
 {
-    BlockLen::Refused(Refusal::because(QUERY))
+    Err(Refusal::because(QUERY))
 }
 
 // The bytes that a block takes, if it is a query block.
-fn len_of(b: Block) -> BlockLen
-    ensures { said_len result ≡ len_of b }
+fn len_of(b: Block) -> Result<usize, Refusal>
+    ensures { result ≡ len_of b }
 {
     let n = b.len;
-    if b.kind == block::kinds::QUERY {
-        if body_len(n) {
-            return BlockLen::Is(HEAD + n);
-        }
-        return no_block();
+    if b.kind == block::kinds::QUERY && body_len(n) {
+        return Ok(HEAD + n);
     }
     no_block()
 }
 
 // The bytes that the query block at the front of an input takes.
-pub fn block_len(s: &[u8]) -> BlockLen
-    ensures { said_len result ≡ block_len s.now }
+pub fn block_len(s: &[u8]) -> Result<usize, Refusal>
+    ensures { result ≡ block_len s.now }
 {
-    let found = block_at(s, 0);
-    match found {
-        BlockRead::Found(b) => len_of(b),
-        BlockRead::Refused(_) => no_block(),
+    match block_at(s, 0) {
+        Ok(b) => len_of(b),
+        Err(_) => no_block(),
     }
 }
 
 // Nothing that can be asked.
-fn nothing_asked() -> AskRead
-    ensures { said_ask result ≡ refused (because query) }
+fn nothing_asked() -> Result<Ask, Refusal>
+    ensures { result ≡ refused (because query) }
 {
-    AskRead::Refused(Refusal::because(QUERY))
+    Err(Refusal::because(QUERY))
 }
 
 // Whether two patterns are finite.
 fn both_finite(x: u64, y: u64) -> bool
     ensures { result ≡ (finite x && finite y) }
 {
-    if finite(x) {
-        return finite(y);
-    }
-    false
+    finite(x) && finite(y)
 }
 
 // The spot of two patterns.
-fn spot_asked(x: u64, y: u64) -> AskRead
-    ensures { said_ask result ≡ spot_asked x y }
+fn spot_asked(x: u64, y: u64) -> Result<Ask, Refusal>
+    ensures { result ≡ spot_asked x y }
 {
     if both_finite(x, y) {
-        return AskRead::Asked(Ask {
+        return Ok(Ask {
             query: Query::Spot(float_of(x), float_of(y)),
         });
     }
@@ -111,25 +85,25 @@ fn spot_asked(x: u64, y: u64) -> AskRead
 }
 
 // The window of the four patterns of a body.
-fn window_asked(s: &[u8]) -> AskRead
+fn window_asked(s: &[u8]) -> Result<Ask, Refusal>
     requires { head_bytes + window_bytes ≤ length s.now }
-    ensures { said_ask result ≡ window_asked (bounds_at s.now head_bytes) }
+    ensures { result ≡ window_asked (bounds_at s.now head_bytes) }
 {
-    match form_of(bounds_at(s, HEAD)) {
-        Form::Good(b) => AskRead::Asked(Ask {
-            query: Query::Window(b),
-        }),
-        Form::Bad => nothing_asked(),
-    }
+    let Some(b) = form_of(bounds_at(s, HEAD)) else {
+        return nothing_asked();
+    };
+    Ok(Ask {
+        query: Query::Window(b),
+    })
 }
 
 // What a block asks, by its length.
-fn asked(s: &[u8]) -> AskRead
-    ensures { said_ask result ≡ asked s.now }
+fn asked(s: &[u8]) -> Result<Ask, Refusal>
+    ensures { result ≡ asked s.now }
 {
     let n = s.len();
     if n == HEAD {
-        return AskRead::Asked(Ask {
+        return Ok(Ask {
             query: Query::Everything,
         });
     }
@@ -143,17 +117,12 @@ fn asked(s: &[u8]) -> AskRead
 }
 
 // What exactly a query block asks.
-pub fn ask_of(s: &[u8]) -> AskRead
-    ensures { said_ask result ≡ ask_of s.now }
+pub fn ask_of(s: &[u8]) -> Result<Ask, Refusal>
+    ensures { result ≡ ask_of s.now }
 {
-    let len = block_len(s);
-    match len {
-        BlockLen::Is(n) => {
-            if n == s.len() {
-                return asked(s);
-            }
-            nothing_asked()
-        }
-        BlockLen::Refused(w) => AskRead::Refused(w),
+    let n = block_len(s)?;
+    if n == s.len() {
+        return asked(s);
     }
+    nothing_asked()
 }

@@ -7,14 +7,10 @@ use Rattle.query.proofs.Touching.{touches-everything, touches-spot, touches-wind
 use Rattle.query.proofs.ask.hit.Goals as goal
 
 pub shape_in-requires : goal.shape_in-requires
-shape_in-requires c =
-    let s = c in
-    (subst FiniteBox (sym c.point.ensures) (spot-finite _ _ _ c.in-Spot.is s.requires.0), s.requires.1, s.requires.2, s.requires.3)
+shape_in-requires c = (subst FiniteBox (sym c.point.ensures) (spot-finite _ _ _ c.in-Spot.is c.requires.0), c.requires.1, c.requires.2, c.requires.3)
 
 pub shape_in-requires-in-Window : goal.shape_in-requires-in-Window
-shape_in-requires-in-Window c =
-    let s = c in
-    (window-finite _ _ c.in-Window.is s.requires.0, s.requires.1, s.requires.2, s.requires.3)
+shape_in-requires-in-Window c = (window-finite _ _ c.in-Window.is c.requires.0, c.requires.1, c.requires.2, c.requires.3)
 
 pub returns-in-Everything : goal.returns-in-Everything
 unfolding hit

@@ -6,4 +6,4 @@ use Rattle.answer.specs.Rule.{rule}
 use Rattle.query.proofs.ask.judge.Goals as goal
 
 pub returns : goal.returns
-returns c = c.of.ensures ∙ ap (λ (t : Bool). rule t query) c.good_query.ensures
+returns c = c.rule.ensures ∙ ap (λ (t : Bool). rule t query) c.good_query.ensures

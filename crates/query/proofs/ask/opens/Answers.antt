@@ -7,14 +7,10 @@ use Rattle.query.proofs.Touching.{touches-everything, touches-spot, touches-wind
 use Rattle.query.proofs.ask.opens.Goals as goal
 
 pub page_in-requires : goal.page_in-requires
-page_in-requires c =
-    let s = c in
-    (subst FiniteBox (sym c.point.ensures) (spot-finite _ _ _ c.in-Spot.is s.requires.0), s.requires.1)
+page_in-requires c = (subst FiniteBox (sym c.point.ensures) (spot-finite _ _ _ c.in-Spot.is c.requires.0), c.requires.1)
 
 pub page_in-requires-in-Window : goal.page_in-requires-in-Window
-page_in-requires-in-Window c =
-    let s = c in
-    (window-finite _ _ c.in-Window.is s.requires.0, s.requires.1)
+page_in-requires-in-Window c = (window-finite _ _ c.in-Window.is c.requires.0, c.requires.1)
 
 pub returns-in-Everything : goal.returns-in-Everything
 unfolding opens

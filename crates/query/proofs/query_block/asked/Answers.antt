@@ -1,11 +1,10 @@
 -- `query::query_block::asked` goes by the length, as the definition does. Assumes nothing.
 use mathlib.Core.Path.{sym, ap₂, ◌∙◌}
-use Rattle.query.specs.Block.{spot_asked, said_ask}
+use Rattle.query.specs.Block.{spot_asked}
 use Rattle.query.proofs.Blocks.{asked-everything, asked-spot, asked-window, asked-other}
 use Rattle.query.proofs.query_block.asked.Goals as goal
 
 pub returns-then-n-eq-HEAD : goal.returns-then-n-eq-HEAD
-unfolding said_ask
 returns-then-n-eq-HEAD c = sym (asked-everything _ c.if-n-eq-HEAD.true)
 
 pub returns-then-n : goal.returns-then-n

@@ -1,9 +1,7 @@
 -- `query::query_block::no_block` says the refusal of a query. Assumes nothing.
 use mathlib.Core.Path.{ap}
 use Rattle.answer.specs.Outcome.{refused}
-use Rattle.query.specs.Block.{said_len}
 use Rattle.query.proofs.query_block.no_block.Goals as goal
 
 pub returns : goal.returns
-unfolding said_len
 returns c = ap refused c.because.ensures

@@ -1,9 +1,7 @@
 -- `query::query_block::nothing_asked` says the refusal of a query. Assumes nothing.
 use mathlib.Core.Path.{ap}
 use Rattle.answer.specs.Outcome.{refused}
-use Rattle.query.specs.Block.{said_ask}
 use Rattle.query.proofs.query_block.nothing_asked.Goals as goal
 
 pub returns : goal.returns
-unfolding said_ask
 returns c = ap refused c.because.ensures
