@@ -14,8 +14,6 @@ use Rattle.answer.specs.Table as Table
 use Rattle.answer.specs.Refusal.{because, at_value}
 use Rattle.answer.specs.Outcome.{Out, refused, ok, answered, Fills}
 use Rattle.answer.specs.declared.Refusal.{Refusal}
-use Rattle.answer.specs.declared.Filled.{Filled}
-use Rattle.answer.specs.declared.Filled.TheVariants.{Start, Refused}
 use Rattle.answer.proofs.Outcomes.{met, unmet, ok-inj, need-ok, fills-refused, fills-ok}
 use Rattle.le.specs.Number.{number, field, Bytes}
 use Rattle.le.proofs.Numbers.{number_lt}
@@ -153,21 +151,21 @@ module _ (P : ℕ) (s : List ℕ) (n : ℕ) (d : List ℕ) where
 
   -- ---- what each return of the code shows
 
-  pub decodes-none : n ≡ 0 → length s ≡ 0 → Bytes s → Decodes P s n d (Start 0) d
+  pub decodes-none : n ≡ 0 → length s ≡ 0 → Bytes s → Decodes P s n d (ok 0) d
   unfolding answered
   decodes-none e l h = record { answer = rw (decode-none P s n e l h); scratch = scratch-none e }
 
-  pub decodes-none-bits : n ≡ 0 → (length s ≡ 0 → ⊥) → Decodes P s n d (Refused (because Table.bits)) d
+  pub decodes-none-bits : n ≡ 0 → (length s ≡ 0 → ⊥) → Decodes P s n d (refused (because Table.bits)) d
   unfolding answered
   decodes-none-bits e l = record { answer = rw (decode-none-bits P s n e l); scratch = scratch-none e }
 
   module _ (h0 : n ≡ 0 → ⊥) where
-    pub decodes-empty : length s ≡ 0 → Decodes P s n d (Refused (because Table.bits)) d
+    pub decodes-empty : length s ≡ 0 → Decodes P s n d (refused (because Table.bits)) d
     unfolding answered
     decodes-empty l = record { answer = rw (decode-empty P s n h0 l); scratch = scratch-empty h0 l }
 
     module _ (hs : length s ≡ 0 → ⊥) where
-      pub decodes-wide : P < get_or s 0 0 → Decodes P s n d (Refused (because Table.width)) d
+      pub decodes-wide : P < get_or s 0 0 → Decodes P s n d (refused (because Table.width)) d
       unfolding answered
       decodes-wide l = record { answer = rw (decode-wide P s n h0 hs l); scratch = scratch-wide h0 hs l }
 
@@ -175,17 +173,17 @@ module _ (P : ℕ) (s : List ℕ) (n : ℕ) (d : List ℕ) where
         left : new ≡ scratch_of P s n d
         left = hn ∙ scratch-said h0 hs hw
 
-        pub decodes-refused : (w : Refusal) → decode_of P s n ≡ refused w → Decodes P s n d (Refused w) new
+        pub decodes-refused : (w : Refusal) → decode_of P s n ≡ refused w → Decodes P s n d (refused w) new
         unfolding answered
         decodes-refused w q = record { answer = rw q; scratch = left }
 
         module _ (b : Bytes s) (l : whole e ≡ length s) where
-          pub decodes-fill : (number s / 2 ^ e % 2 ^ 64 ≡ 0 → ⊥) → Decodes P s n d (Refused (at_value n (because Table.fill))) new
+          pub decodes-fill : (number s / 2 ^ e % 2 ^ 64 ≡ 0 → ⊥) → Decodes P s n d (refused (at_value n (because Table.fill))) new
           decodes-fill z = decodes-refused _ (ended-fill P s n h0 hs hw e he b l z)
 
-          pub decodes-good : number s / 2 ^ e % 2 ^ 64 ≡ 0 → Decodes P s n d (Start n) new
+          pub decodes-good : number s / 2 ^ e % 2 ^ 64 ≡ 0 → Decodes P s n d (ok n) new
           unfolding answered
-          decodes-good z = record { answer = rw (ended-good P s n h0 hs hw e he b l z) (ap Start (sym (length-said P s n (omega arith)))); scratch = left }
+          decodes-good z = record { answer = rw (ended-good P s n h0 hs hw e he b l z) (ap ok (sym (length-said P s n (omega arith)))); scratch = left }
 
 -- ---- where a value comes, what held
 
@@ -238,20 +236,20 @@ scratch-ok P s n d l h = go (eqb n 0) refl
 
 module _ {P : ℕ} {s : List ℕ} {n : ℕ} {d own : List ℕ} (room : List ℕ) where
   -- a refusal is passed on, and the room stays
-  pub passed-refused : (w : Refusal) → Decodes P s n d (Refused w) own → Fills (decode_of P s n) room (Refused w) room
+  pub passed-refused : (w : Refusal) → Decodes P s n d (refused w) own → Fills (decode_of P s n) room (refused w) room
   unfolding answered
   passed-refused w h = go (decode_of P s n) refl h.answer
     where
-      go : (o : Out (List ℕ)) → decode_of P s n ≡ o → Refused w ≡ answered o → Fills (decode_of P s n) room (Refused w) room
+      go : (o : Out (List ℕ)) → decode_of P s n ≡ o → refused w ≡ answered o → Fills (decode_of P s n) room (refused w) room
       go (refused x) e q = let z : w ≡ x = cc in fills-refused w (e ∙ ap refused (sym z))
       go (ok l) e q = absurd (let z : ◌≡◌ {A = ℕ} 0 1 = cc in omega arith)
 
   -- the values are copied
-  pub passed-values : (k : ℕ) (new : List ℕ) → Decodes P s n d (Start k) own → new ≡ take n own ++ drop n room → Fills (decode_of P s n) room (Start k) new
+  pub passed-values : (k : ℕ) (new : List ℕ) → Decodes P s n d (ok k) own → new ≡ take n own ++ drop n room → Fills (decode_of P s n) room (ok k) new
   unfolding answered
   passed-values k new h r = go (decode_of P s n) refl h.answer
     where
-      go : (o : Out (List ℕ)) → decode_of P s n ≡ o → Start k ≡ answered o → Fills (decode_of P s n) room (Start k) new
+      go : (o : Out (List ℕ)) → decode_of P s n ≡ o → ok k ≡ answered o → Fills (decode_of P s n) room (ok k) new
       go (refused x) e q = absurd (let z : ◌≡◌ {A = ℕ} 0 1 = cc in omega arith)
       go (ok l) e q =
           let z : k ≡ length l = cc in
@@ -260,6 +258,6 @@ module _ {P : ℕ} {s : List ℕ} {n : ℕ} {d own : List ℕ} (room : List ℕ)
           fills-ok l k new e z (r ∙ ap₂ (λ (x : List ℕ) (j : ℕ). x ++ drop j room) t (sym (z ∙ o.0)))
 
 -- with room for the values, reading is decoding
-pub read-passed : (P : ℕ) (s : List ℕ) (n : ℕ) (room : List ℕ) {r : Filled} {new : List ℕ} → n ≤ 2048 → n ≤ length room
+pub read-passed : (P : ℕ) (s : List ℕ) (n : ℕ) (room : List ℕ) {r : Out ℕ} {new : List ℕ} → n ≤ 2048 → n ≤ length room
     → Fills (decode_of P s n) room r new → Fills (read_of P s n (length room)) room r new
 read-passed P s n room h l f = rw (read-decode P s n (length room) h l) f

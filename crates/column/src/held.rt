@@ -20,16 +20,14 @@ fn held(s: &[u8], n: usize, w: u64) -> usize
     }
     let m = entry::marker(w);
     let mut at: usize = 72;
-    let mut i: usize = 1;
-    while i < n {
+    for i in 1..n {
         let next = entry::entry_at(s, at, w, m, 0).next;
         if room < next {
             return i;
         }
         at = next;
-        i += 1;
     }
-    i
+    n
 }
 
 // The refusal of bytes that are not as many as the entries of n values take: too few, or too many.

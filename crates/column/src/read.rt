@@ -8,19 +8,19 @@ ghost use Rattle.column.specs.Read.{said_by, end_of, decode_of, read_of, Decodes
 use crate::held::misfit;
 use crate::walk::fill;
 use crate::{refused, refused_at};
-use answer::Filled;
+use answer::Refusal;
 use answer::limits::MOST_VERTICES;
 use entry::Given;
 
 // The n values of a column into a scratch of the caller's own, in one walk. A refusal by 9 or 10 too leaves there what the entries said.
-pub fn decode(s: &[u8], n: usize, out: &mut [u64]) -> Filled
+pub fn decode(s: &[u8], n: usize, out: &mut [u64]) -> Result<usize, Refusal>
     requires { (n ≤ vertex_limit) × (n ≤ length out.old) }
     ensures { Decodes 64 s.now n out.old result out.new }
 {
     let len = s.len();
     if n == 0 {
         if len == 0 {
-            return Filled::Start(0);
+            return Ok(0);
         }
         return refused(answer::table::BITS);
     }
@@ -34,12 +34,12 @@ pub fn decode(s: &[u8], n: usize, out: &mut [u64]) -> Filled
     let e = fill(s, n, w, out);
     let took = (e + 7) / 8;
     if took != len {
-        return Filled::Refused(misfit(s, n, w, took));
+        return Err(misfit(s, n, w, took));
     }
     if le::bits::window_in_last_byte(s, e) != 0 {
         return refused_at(answer::table::FILL, n);
     }
-    Filled::Start(n)
+    Ok(n)
 }
 
 // The first n of src into the start of dst.
@@ -47,21 +47,17 @@ fn copy(src: &[u64], n: usize, dst: &mut [u64])
     requires { (n ≤ length src.now) × (n ≤ length dst.old) }
     ensures { dst.new ≡ take n src.now ++ drop n dst.old }
 {
-    le::run::copy_u64s(&src[..n], dst);
+    le::run::copy_to_start(&src[..n], dst);
 }
 
 // Decodes through a scratch, so that a refusal leaves out as it was.
-fn through(s: &[u8], n: usize, scratch: &mut [u64], out: &mut [u64]) -> Filled
+fn through(s: &[u8], n: usize, scratch: &mut [u64], out: &mut [u64]) -> Result<usize, Refusal>
     requires { (n ≤ vertex_limit) × (n ≤ length scratch.old) × (n ≤ length out.old) }
     ensures { Fills (decode_of 64 s.now n) out.old result out.new }
 {
-    match decode(s, n, scratch) {
-        Filled::Start(k) => {
-            copy(scratch, n, out);
-            Filled::Start(k)
-        }
-        Filled::Refused(w) => Filled::Refused(w),
-    }
+    let k = decode(s, n, scratch)?;
+    copy(scratch, n, out);
+    Ok(k)
 }
 
 // Where the entries of one or two values end, and the second value; a is the first.
@@ -76,7 +72,7 @@ fn second(s: &[u8], n: usize, w: u64, a: u64) -> Given
 }
 
 // Reads one or two values with no scratch: all is known of them before the room is touched.
-fn read_pair(s: &[u8], n: usize, out: &mut [u64]) -> Filled
+fn read_pair(s: &[u8], n: usize, out: &mut [u64]) -> Result<usize, Refusal>
     requires { (0 < n) × (n ≤ 2) × (n ≤ length out.old) }
     ensures { Fills (decode_of 64 s.now n) out.old result out.new }
 {
@@ -93,80 +89,53 @@ fn read_pair(s: &[u8], n: usize, out: &mut [u64]) -> Filled
     let end = e.next;
     let took = (end + 7) / 8;
     if took != len {
-        return Filled::Refused(misfit(s, n, w, took));
+        return Err(misfit(s, n, w, took));
     }
     if le::bits::window_in_last_byte(s, end) != 0 {
         return refused_at(answer::table::FILL, n);
     }
     out[0] = a;
     if n == 1 {
-        return Filled::Start(1);
+        return Ok(1);
     }
     out[1] = e.value;
-    Filled::Start(2)
+    Ok(2)
 }
 
-// Decodes through a scratch of 32 values.
-fn through_32(s: &[u8], n: usize, out: &mut [u64]) -> Filled
-    requires { (n ≤ 32) × (n ≤ length out.old) }
+// Decodes through a scratch of M values, no more than there can be.
+fn through_sized<const M: usize>(s: &[u8], n: usize, out: &mut [u64]) -> Result<usize, Refusal>
+    requires { (n ≤ M) × (M ≤ vertex_limit) × (n ≤ length out.old) }
     ensures { Fills (decode_of 64 s.now n) out.old result out.new }
 {
-    let mut own = [0u64; 32];
-    through(s, n, &mut own, out)
-}
-
-// Decodes through a scratch of 128 values.
-fn through_128(s: &[u8], n: usize, out: &mut [u64]) -> Filled
-    requires { (n ≤ 128) × (n ≤ length out.old) }
-    ensures { Fills (decode_of 64 s.now n) out.old result out.new }
-{
-    let mut own = [0u64; 128];
-    through(s, n, &mut own, out)
-}
-
-// Decodes through a scratch of 512 values.
-fn through_512(s: &[u8], n: usize, out: &mut [u64]) -> Filled
-    requires { (n ≤ 512) × (n ≤ length out.old) }
-    ensures { Fills (decode_of 64 s.now n) out.old result out.new }
-{
-    let mut own = [0u64; 512];
-    through(s, n, &mut own, out)
-}
-
-// Decodes through a scratch of 2,048 values.
-fn through_2048(s: &[u8], n: usize, out: &mut [u64]) -> Filled
-    requires { (n ≤ vertex_limit) × (n ≤ length out.old) }
-    ensures { Fills (decode_of 64 s.now n) out.old result out.new }
-{
-    let mut own = [0u64; MOST_VERTICES];
+    let mut own = [0u64; M];
     through(s, n, &mut own, out)
 }
 
 // Reads through a scratch that is as long as it need be, or through none: clearing 16 KiB for 200 values would cost more than reading them.
-fn through_own(s: &[u8], n: usize, out: &mut [u64]) -> Filled
+fn through_own(s: &[u8], n: usize, out: &mut [u64]) -> Result<usize, Refusal>
     requires { (n ≤ vertex_limit) × (n ≤ length out.old) }
     ensures { Fills (decode_of 64 s.now n) out.old result out.new }
 {
     if n == 0 {
-        return through_32(s, n, out);
+        return through_sized::<32>(s, n, out);
     }
     if n <= 2 {
         return read_pair(s, n, out);
     }
     if n <= 32 {
-        return through_32(s, n, out);
+        return through_sized::<32>(s, n, out);
     }
     if n <= 128 {
-        return through_128(s, n, out);
+        return through_sized::<128>(s, n, out);
     }
     if n <= 512 {
-        return through_512(s, n, out);
+        return through_sized::<512>(s, n, out);
     }
-    through_2048(s, n, out)
+    through_sized::<MOST_VERTICES>(s, n, out)
 }
 
 // The n values of a column into the start of out.
-pub fn read(s: &[u8], n: usize, out: &mut [u64]) -> Filled
+pub fn read(s: &[u8], n: usize, out: &mut [u64]) -> Result<usize, Refusal>
     ensures { Fills (read_of 64 s.now n (length out.old)) out.old result out.new }
 {
     if MOST_VERTICES < n {

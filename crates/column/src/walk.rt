@@ -41,6 +41,7 @@ fn fill_steps(s: &[u8], n: usize, limit: usize, m: u64, from: Position, out: &mu
     let mut last = from.last;
     let mut i = from.given;
     let end = steps_end(limit, at, w, n - i);
+    // no `for`: the place ends the walk, so a `for` over the room would test it within, and the index is told with it
     while at < end {
         let z = le::bits::field_within(s, at, w, m);
         if m <= z {
@@ -64,8 +65,8 @@ fn fill_steps(s: &[u8], n: usize, limit: usize, m: u64, from: Position, out: &mu
     }
 }
 
-// Gives values into out as long as an entry is sure to lie inside s, one by one.
-fn fill_each(s: &[u8], n: usize, m: u64, from: Position, out: &mut [u64]) -> Position
+// Gives values into out as long as an entry is sure to lie inside s: one of either kind, and then, if RUN says so, the steps that follow it.
+fn fill_on<const RUN: bool>(s: &[u8], n: usize, m: u64, from: Position, out: &mut [u64]) -> Position
     requires fillable { Fillable n m from out.old }
     requires at_bound { from.at ≤ 72 }
     ensures { Went 64 (number s.now) n from out.old result out.new }
@@ -75,45 +76,25 @@ fn fill_each(s: &[u8], n: usize, m: u64, from: Position, out: &mut [u64]) -> Pos
     let mut at = from.at;
     let mut last = from.last;
     let mut i = from.given;
+    // no `for`: how many values a turn gives, only the steps say, and a place ends the walk as well
     while i < n && at < before {
         let e = entry::entry_inside(s, at, w, m, last);
         at = e.next;
         last = e.value;
         out[i] = last;
         i += 1;
-    }
-    Position {
-        at,
-        given: i,
-        width: w,
-        last,
-    }
-}
-
-// Gives values into out as long as an entry is sure to lie inside s: one of either kind, and then the steps that follow it.
-fn fill_runs(s: &[u8], n: usize, m: u64, from: Position, out: &mut [u64]) -> Position
-    requires fillable { Fillable n m from out.old }
-    requires at_bound { from.at ≤ 72 }
-    ensures { Went 64 (number s.now) n from out.old result out.new }
-{
-    let before = sure_before(s.len());
-    let w = from.width;
-    let mut at = from.at;
-    let mut last = from.last;
-    let mut i = from.given;
-    while i < n && at < before {
-        let e = entry::entry_inside(s, at, w, m, last);
-        out[i] = e.value;
-        let here = Position {
-            at: e.next,
-            given: i + 1,
-            width: w,
-            last: e.value,
-        };
-        let p = fill_steps(s, n, before + 64, m, here, out);
-        at = p.at;
-        last = p.last;
-        i = p.given;
+        if RUN {
+            let here = Position {
+                at,
+                given: i,
+                width: w,
+                last,
+            };
+            let p = fill_steps(s, n, before + 64, m, here, out);
+            at = p.at;
+            last = p.last;
+            i = p.given;
+        }
     }
     Position {
         at,
@@ -130,9 +111,9 @@ fn fill_inside(s: &[u8], n: usize, m: u64, from: Position, out: &mut [u64]) -> P
     ensures { Went 64 (number s.now) n from out.old result out.new }
 {
     if from.width == 0 {
-        return fill_each(s, n, m, from, out);
+        return fill_on::<false>(s, n, m, from, out);
     }
-    fill_runs(s, n, m, from, out)
+    fill_on::<true>(s, n, m, from, out)
 }
 
 // Gives values into out as long as steps follow each other that begin in the last eight bytes.
@@ -152,6 +133,7 @@ fn fill_last(s: &[u8], n: usize, m: u64, from: Position, out: &mut [u64]) -> Pos
     if len < 8 {
         return from;
     }
+    // no `for`: a place ends the walk as well, and the index is told with it
     while i < n && at / 8 < len {
         let e = le::bits::field_in_last_eight(s, at, m);
         if m <= e {
@@ -184,17 +166,15 @@ fn fill_rest(s: &[u8], n: usize, m: u64, from: Position, out: &mut [u64]) -> Pos
     let w = from.width;
     let mut at = from.at;
     let mut last = from.last;
-    let mut i = from.given;
-    while i < n {
+    for i in from.given..n {
         let e = entry::entry_at(s, at, w, m, last);
         at = e.next;
         last = e.value;
         out[i] = last;
-        i += 1;
     }
     Position {
         at,
-        given: i,
+        given: n,
         width: w,
         last,
     }

@@ -11,7 +11,7 @@ ghost use Rattle.column.specs.Column.{encode_at, encode};
 ghost use Rattle.column.specs.Write.{write_of};
 
 use crate::refused;
-use answer::Filled;
+use answer::Refusal;
 use answer::limits::MOST_VERTICES;
 
 // The width that a column takes, and its size in bytes.
@@ -48,12 +48,9 @@ fn put_entries(part: &mut [u8], vs: &[u64], n: u64, m: u64) -> usize
 {
     let mut at: usize = 72;
     let mut a = vs[0];
-    let mut i: usize = 1;
-    while i < vs.len() {
-        let v = vs[i];
-        at = entry::put_entry(part, at, n, m, a, v);
-        a = v;
-        i += 1;
+    for v in &vs[1..] {
+        at = entry::put_entry(part, at, n, m, a, *v);
+        a = *v;
     }
     at
 }
@@ -74,7 +71,7 @@ pub fn put(part: &mut [u8], vs: &[u64], n: u64)
 }
 
 // The column of vs, of least size, at the start of out.
-pub fn write(vs: &[u64], out: &mut [u8]) -> Filled
+pub fn write(vs: &[u64], out: &mut [u8]) -> Result<usize, Refusal>
     ensures { Fills (write_of 64 vs.now (length out.old)) out.old result out.new }
 {
     if MOST_VERTICES < vs.len() {
@@ -86,5 +83,5 @@ pub fn write(vs: &[u64], out: &mut [u8]) -> Filled
         return refused(answer::table::ROOM);
     }
     put(&mut out[..size], vs, f.width);
-    Filled::Start(size)
+    Ok(size)
 }

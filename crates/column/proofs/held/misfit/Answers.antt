@@ -7,16 +7,14 @@ use Rattle.column.proofs.held.misfit.Goals as goal
 
 pub returns-then-took-s : goal.returns-then-took-s
 returns-then-took-s c =
-    let st = c in
-    let a = st.args in
+    let a = c.args in
     rw c.at_value.ensures
-    (ended-over 64 a.s.now a.n (λ z. omega (arith, st.requires.w_value.2)) (λ z. omega (arith, st.requires.s_nonzero.0)) (omega (arith, st.requires.w_value.0, st.requires.w_value.1)) (end_of 64 a.s.now a.n) refl
-    (omega (arith, st.requires.s_nonzero.1, c.if-took-s.true)))
+    (ended-over 64 a.s.now a.n (λ z. omega (arith, c.requires.w_value.2)) (λ z. omega (arith, c.requires.s_nonzero.0)) (omega (arith, c.requires.w_value.0, c.requires.w_value.1)) (end_of 64 a.s.now a.n) refl
+    (omega (arith, c.requires.s_nonzero.1, c.if-took-s.true)))
 
 pub returns : goal.returns
 returns c =
-    let st = c in
-    let a = st.args in
+    let a = c.args in
     rw (c.at_value-2.ensures, c.held.ensures.0)
-    (ended-few 64 a.s.now a.n (λ z. omega (arith, st.requires.w_value.2)) (λ z. omega (arith, st.requires.s_nonzero.0)) (omega (arith, st.requires.w_value.0, st.requires.w_value.1)) (end_of 64 a.s.now a.n) refl
-    (omega (arith, st.requires.s_nonzero.1, c.if-took-s.false, st.requires.s_nonzero.3)))
+    (ended-few 64 a.s.now a.n (λ z. omega (arith, c.requires.w_value.2)) (λ z. omega (arith, c.requires.s_nonzero.0)) (omega (arith, c.requires.w_value.0, c.requires.w_value.1)) (end_of 64 a.s.now a.n) refl
+    (omega (arith, c.requires.s_nonzero.1, c.if-took-s.false, c.requires.s_nonzero.3)))

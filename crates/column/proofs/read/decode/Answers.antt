@@ -1,6 +1,5 @@
 -- `column::read::decode` gives the outcome of decoding, one law for each return. Assumes nothing.
-use mathlib.Core.Path.{sym, ap, ◌∙◌}
-use Prim.Native.Nat.{ℕ, ◌+◌, ◌/◌}
+use mathlib.Core.Path.{sym, ◌∙◌}
 use native.Mathlib.Omega.{arith}
 use Rattle.column.proofs.Decoding.{decodes-none, decodes-none-bits, decodes-empty, decodes-wide, decodes-refused, decodes-fill, decodes-good}
 use Rattle.column.proofs.read.decode.Goals as goal
@@ -26,15 +25,6 @@ returns-then-w-gt64 c =
     let if3 = c.if-len-eq0-2 in
     let a = c.args in
     rw c.refused-then-w-gt64.ensures (decodes-wide 64 a.s.now a.n a.out.now if1.false if3.false (omega (arith, c.wide-w.ensures, c.if-w-gt64.true)))
-
-pub misfit-requires : goal.misfit-requires
-misfit-requires c =
-    let if1 = c.if-n-eq0 in
-    let if3 = c.if-len-eq0-2 in
-    let wide = c.wide-w in
-    let if4 = c.if-w-gt64 in
-    let fill = c.fill-e in
-    let st = c in record { w_value = (wide.ensures, if4.false, omega (arith, if1.false), st.requires.0); s_nonzero = (omega (arith, if3.false), ap (λ (e : ℕ). (e + 7) / 8) fill.ensures.end, omega (arith, fill.ensures.bound), c.if-took-len.true) }
 
 pub returns-then-took-len : goal.returns-then-took-len
 returns-then-took-len c =

@@ -1,15 +1,12 @@
 -- `column::read::through` decodes into its scratch and copies, or passes the refusal on. Assumes nothing.
+use Rattle.answer.proofs.Outcomes.{handed-on}
 use Rattle.column.proofs.Decoding.{passed-refused, passed-values}
 use Rattle.column.proofs.read.through.Goals as goal
 
-pub returns-in-Start : goal.returns-in-Start
-returns-in-Start c =
-    let st = c in
-    let d = c.decode in
-    passed-values st.args.out.now c.in-Start.k c.copy.new.dst (rw c.in-Start.is at d.ensures) c.copy.ensures
+pub returns-in_err-k : goal.returns-in_err-k
+returns-in_err-k c =
+    let w = c.in_err-k.field-0.0 in
+    rw (handed-on c.from_residual.ensures.1) (passed-refused c.args.out.now w (rw c.in_err-k.was at c.decode.ensures))
 
-pub returns-in-Refused : goal.returns-in-Refused
-returns-in-Refused c =
-    let st = c in
-    let d = c.decode in
-    passed-refused st.args.out.now c.in-Refused.w (rw c.in-Refused.is at d.ensures)
+pub returns : goal.returns
+returns c = passed-values c.args.out.now c.in_ok-k.k c.copy.new.dst (rw c.in_ok-k.was at c.decode.ensures) c.copy.ensures

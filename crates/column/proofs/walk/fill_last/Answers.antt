@@ -23,10 +23,9 @@ loop-i-init c = (went-none c.requires.fillable.given, omega (arith, c.if-at-len.
 
 pub field_in_last_eight-e-requires : goal.field_in_last_eight-e-requires
 field_in_last_eight-e-requires c =
-    let st = c in
     let l = c.loop-i in
     let long = c.if-len-lt8.false in
-    let here = ltb-true (l.at / 8) (length st.args.s.now) c.if-at-len-2.true-raw in
+    let here = ltb-true (l.at / 8) (length c.args.s.now) c.if-at-len-2.true-raw in
     (omega (arith, long), omega (arith, long, l.invariant.1), omega (arith, here))
 
 pub shape_of-out-then-m-e : goal.shape_of-out-then-m-e
@@ -36,19 +35,13 @@ pub returns-then-m-e : goal.returns-then-m-e
 returns-then-m-e c = c.loop-i.invariant.0
 
 pub overflow_add-at-in-loop-i : goal.overflow_add-at-in-loop-i
-overflow_add-at-in-loop-i c =
-    let st = c in
-    omega (arith, c.loop-i.invariant.0.bound, st.requires.fillable.wide, st.requires.fillable.few, st.requires.at_bound)
+overflow_add-at-in-loop-i c = omega (arith, c.loop-i.invariant.0.bound, c.requires.fillable.wide, c.requires.fillable.few, c.requires.at_bound)
 
 pub offset_bounds-out-i : goal.offset_bounds-out-i
-offset_bounds-out-i c =
-    let st = c in
-    omega (arith, c.loop-i.invariant.0.most, st.requires.fillable.few)
+offset_bounds-out-i c = omega (arith, c.loop-i.invariant.0.most, c.requires.fillable.few)
 
 pub bounds-out-i : goal.bounds-out-i
-bounds-out-i c =
-    let st = c in
-    omega (arith, c.loop-i-test.true, st.requires.fillable.room, c.loop-i.invariant.0.same)
+bounds-out-i c = omega (arith, c.loop-i-test.true, c.requires.fillable.room, c.loop-i.invariant.0.same)
 
 pub overflow_add-i : goal.overflow_add-i
 overflow_add-i c = omega (arith, c.loop-i-test.true)
@@ -58,13 +51,12 @@ loop-i-smaller c = omega (arith, c.loop-i-test.true)
 
 pub loop-i-preserved : goal.loop-i-preserved
 loop-i-preserved c =
-    let st = c in
     let l = c.loop-i in
     let more = c.loop-i-test.true in
     let z = c.field_in_last_eight-e in
-    let w = st.args.from.width in
-    let said = given-short 64 (number st.args.s.now) w l.at l.last z.result (z.ensures w st.requires.fillable.marks) st.args.m c.stepped-last.result st.requires.fillable.marks c.if-m-e.false c.stepped-last.ensures in
-    (went-more l.at l.i w l.last l.out l.invariant.0 c.stepped-last.result (l.at + w) st.requires.fillable.wide more st.requires.fillable.room said, omega (arith, l.invariant.1))
+    let w = c.args.from.width in
+    let said = given-short 64 (number c.args.s.now) w l.at l.last z.result (z.ensures w c.requires.fillable.marks) c.args.m c.stepped-last.result c.requires.fillable.marks c.if-m-e.false c.stepped-last.ensures in
+    (went-more l.at l.i w l.last l.out l.invariant.0 c.stepped-last.result (l.at + w) c.requires.fillable.wide more c.requires.fillable.room said, omega (arith, l.invariant.1))
 
 pub shape_of-out-else-at-len-2 : goal.shape_of-out-else-at-len-2
 shape_of-out-else-at-len-2 c = c.loop-i.invariant.0.same

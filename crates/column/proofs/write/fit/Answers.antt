@@ -11,15 +11,13 @@ returns-then-vs-eq0 c = (c.choose-c.ensures.0, fitted_none 64 c.args.vs.now c.if
 
 pub overflow_add-result : goal.overflow_add-result
 overflow_add-result c =
-    let st = c in
     let k = c.choose-c in
-    let l : 0 < length st.args.vs.now = omega (arith, c.if-vs-eq0.false) in
-    omega (arith, fitted-small 64 k.result.width k.result.size st.args.vs.now l k.ensures.0 k.ensures.1, st.requires)
+    let l : 0 < length c.args.vs.now = omega (arith, c.if-vs-eq0.false) in
+    omega (arith, fitted-small 64 k.result.width k.result.size c.args.vs.now l k.ensures.0 k.ensures.1, c.requires)
 
 pub returns : goal.returns
 returns c =
-    let st = c in
     let k = c.choose-c in
-    let l : 0 < length st.args.vs.now = omega (arith, c.if-vs-eq0.false) in
+    let l : 0 < length c.args.vs.now = omega (arith, c.if-vs-eq0.false) in
     let e : k.result.size + 79 ≡ 8 + 64 + k.result.size + 7 = omega arith in
-    (k.ensures.0, ap (λ (x : ℕ). x / 8) e ∙ fitted-some 64 k.result.width k.result.size st.args.vs.now l k.ensures.0 k.ensures.1)
+    (k.ensures.0, ap (λ (x : ℕ). x / 8) e ∙ fitted-some 64 k.result.width k.result.size c.args.vs.now l k.ensures.0 k.ensures.1)

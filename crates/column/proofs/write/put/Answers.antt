@@ -9,44 +9,40 @@ use Rattle.column.proofs.Writing.{put-none, part-size, put_all}
 use Rattle.column.proofs.write.put.Goals as goal
 
 pub returns-then-count-eq0 : goal.returns-then-count-eq0
-returns-then-count-eq0 c = let st = c in put-none 64 st.args.n st.args.vs.now st.args.part.now c.if-count-eq0.true st.requires.2
+returns-then-count-eq0 c = put-none 64 c.args.n c.args.vs.now c.args.part.now c.if-count-eq0.true c.requires.2
 
 pub put_field-requires : goal.put_field-requires
 put_field-requires c =
-    let st = c in
-    let some : 0 < length st.args.vs.now = omega (arith, c.if-count-eq0.false) in
-    let size = part-size 64 st.args.n st.args.vs.now st.args.part.now some st.requires.2 in
-    (omega arith, omega (arith, st.requires.0), omega (arith, size))
+    let some : 0 < length c.args.vs.now = omega (arith, c.if-count-eq0.false) in
+    let size = part-size 64 c.args.n c.args.vs.now c.args.part.now some c.requires.2 in
+    (omega arith, omega (arith, c.requires.0), omega (arith, size))
 
 pub put_field-requires-2 : goal.put_field-requires-2
 put_field-requires-2 c =
-    let st = c in
-    let some : 0 < length st.args.vs.now = omega (arith, c.if-count-eq0.false) in
-    let size = part-size 64 st.args.n st.args.vs.now st.args.part.now some st.requires.2 in
-    (omega arith, (c.shared_slice_known-2-1.given 0).fits, omega (arith, size, ap length c.put_field.ensures, length-put st.args.part.now 0 st.args.n))
+    let some : 0 < length c.args.vs.now = omega (arith, c.if-count-eq0.false) in
+    let size = part-size 64 c.args.n c.args.vs.now c.args.part.now some c.requires.2 in
+    (omega arith, (c.shared_slice_known-2-1.given 0).fits, omega (arith, size, ap length c.put_field.ensures, length-put c.args.part.now 0 c.args.n))
 
 pub put_entries-end-requires : goal.put_entries-end-requires
 put_entries-end-requires c =
     let put-field = c.put_field in
-    let st = c in
-    let some : 0 < length st.args.vs.now = omega (arith, c.if-count-eq0.false) in
-    let size = part-size 64 st.args.n st.args.vs.now st.args.part.now some st.requires.2 in record {
-      n_bound = (st.requires.0, c.marker.ensures, some, st.requires.1);
+    let some : 0 < length c.args.vs.now = omega (arith, c.if-count-eq0.false) in
+    let size = part-size 64 c.args.n c.args.vs.now c.args.part.now some c.requires.2 in record {
+      n_bound = (c.requires.0, c.marker.ensures, some, c.requires.1);
       vs_bound = omega (
         arith,
         size,
         ap length c.put_field-2.ensures,
-        length-put put-field.new.s 8 (get_or st.args.vs.now 0 0),
+        length-put put-field.new.s 8 (get_or c.args.vs.now 0 0),
         ap length put-field.ensures,
-        length-put st.args.part.now 0 st.args.n,
+        length-put c.args.part.now 0 c.args.n,
       );
     }
 
 pub put_field-requires-3 : goal.put_field-requires-3
 put_field-requires-3 c =
-    let st = c in
-    let some : 0 < length st.args.vs.now = omega (arith, c.if-count-eq0.false) in
-    let size = part-size 64 st.args.n st.args.vs.now st.args.part.now some st.requires.2 in
+    let some : 0 < length c.args.vs.now = omega (arith, c.if-count-eq0.false) in
+    let size = part-size 64 c.args.n c.args.vs.now c.args.part.now some c.requires.2 in
     (omega arith, pow_pos _, omega (arith, size, c.put_entries-end.ensures.place))
 
 pub returns : goal.returns
@@ -57,8 +53,7 @@ returns c =
     let put-field = c.put_field in
     let put-field2 = c.put_field-2 in
     let put_entries = c.put_entries-end in
-    let st = c in
-    let some : 0 < length st.args.vs.now = omega (arith, if1.false) in
-    put_all 64 st.args.n st.args.vs.now st.args.part.now some st.requires.2 put-field.new.s put-field2.new.s put_entries.new.part c.put_field-3.new.s put_entries.result
-    st.requires.0 (omega arith) (λ i. (slice-known.given i).fits) (λ i. (shared-slice-known.given i).fits)
+    let some : 0 < length c.args.vs.now = omega (arith, if1.false) in
+    put_all 64 c.args.n c.args.vs.now c.args.part.now some c.requires.2 put-field.new.s put-field2.new.s put_entries.new.part c.put_field-3.new.s put_entries.result
+    c.requires.0 (omega arith) (λ i. (slice-known.given i).fits) (λ i. (shared-slice-known.given i).fits)
     put-field.ensures put-field2.ensures (put_entries.ensures.entries, put_entries.ensures.place) c.put_field-3.ensures

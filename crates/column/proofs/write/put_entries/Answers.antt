@@ -1,28 +1,32 @@
 -- `column::write::put_entries` puts the entries of all values after the first. The invariant: what is still to be put makes the same whole.
 -- Assumes nothing.
+use Prim.Native.Nat.{◌+◌, ◌-◌, ◌<◌}
 use native.Mathlib.Omega.{arith}
-use Rattle.column.proofs.Writing.{putting-none, putting-room, putting-small, putting-more, putting-done}
+use lib.ListN.{length}
+use Rattle.column.proofs.Writing.{behind-first, putting-none, putting-room, putting-small, putting-more, putting-done}
 use Rattle.column.proofs.write.put_entries.Goals as goal
 
-pub loop-i-init : goal.loop-i-init
-loop-i-init c =
-    let st = c in
-    putting-none 64 st.args.n st.args.vs.now st.args.part.now st.requires.n_bound.2
+pub loop-v-init : goal.loop-v-init
+loop-v-init c = putting-none 64 c.args.n c.args.vs.now c.args.part.now c.requires.n_bound.2
 
 pub put_entry-at-requires : goal.put_entry-at-requires
 put_entry-at-requires c =
-    let st = c in
-    let p = c.loop-i.invariant in
-    (st.requires.n_bound.0, st.requires.n_bound.1, putting-room p c.loop-i-test.true st.requires.vs_bound, omega (arith, putting-small p st.requires.n_bound.0, st.requires.n_bound.3))
+    let p = c.loop-v.invariant in
+    let h : c.loop-v.v-index < length c.args.vs.now - 1 = omega arith in
+    let l : c.loop-v.v-index + 1 < length c.args.vs.now = omega arith in
+    rw (behind-first c.args.vs.now c.loop-v.v-index h) (
+      c.requires.n_bound.0,
+      c.requires.n_bound.1,
+      putting-room p l c.requires.vs_bound,
+      omega (arith, putting-small p c.requires.n_bound.0),
+    )
 
-pub loop-i-preserved : goal.loop-i-preserved
-loop-i-preserved c =
-    let loop = c.loop-i in
-    let loop-test = c.loop-i-test in
-    putting-more loop.invariant c.put_entry-at.new.s c.put_entry-at.result loop-test.true c.put_entry-at.ensures
-
-pub shape_of-part : goal.shape_of-part
-shape_of-part c = c.loop-i.invariant.long
+pub loop-v-preserved : goal.loop-v-preserved
+loop-v-preserved c =
+    let h : c.loop-v.v-index < length c.args.vs.now - 1 = omega arith in
+    let l : c.loop-v.v-index + 1 < length c.args.vs.now = omega arith in
+    let b = behind-first c.args.vs.now c.loop-v.v-index h in
+    rw b (putting-more c.loop-v.invariant _ _ l (rw b at c.put_entry-at.ensures))
 
 pub returns : goal.returns
-returns c = let both = putting-done c.loop-i.invariant c.loop-i-test.false in record { entries = both.0; place = both.1 }
+returns c = let both = putting-done c.loop-v.invariant (omega arith) in record { entries = both.0; place = both.1 }
