@@ -4,7 +4,7 @@ use mathlib.Core.Bool.{Bool, true, false, not, ◌||◌}
 
 module _ (a b : Bool) where
   -- it is not made
-  pub skipped : a ≡ false → true ≡ (not a || b)
+  pub skipped : a ≡ false → not a ≡ (not a || b)
   skipped e = simp e
 
   -- it decides

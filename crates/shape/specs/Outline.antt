@@ -1,8 +1,8 @@
 -- The shapes of a page, and the parts of a shape: cut from the page's lists one after the other, each from what the one before it left.
 -- Assumes nothing.
 use Rattle.std.specs.Prelude.{ℕ, List, [], ◌∷◌, take, drop}
-use Rattle.std.specs.Borrow.{Bor}
 use Rattle.types.specs.Parts.{total}
+use Rattle.shape.specs.declared.lists.Lists.{Lists}
 
 -- a shape without its register: its type, its part lengths, and the patterns of its vertices
 pub record Outline : Type 0 where
@@ -41,9 +41,9 @@ outlines_of (t ∷ ts) (c ∷ cs) lens xs ys =
     outline_with t (take c lens) (take (vertex_count c lens) xs) (take (vertex_count c lens) ys)
     ∷ outlines_of ts cs (drop c lens) (drop (vertex_count c lens) xs) (drop (vertex_count c lens) ys)
 
--- the same, by the five slices
-abbrev pub outlines_in : Bor (List ℕ) → Bor (List ℕ) → Bor (List ℕ) → Bor (List ℕ) → Bor (List ℕ) → List Outline
-outlines_in types counts lens xs ys = outlines_of types.now counts.now lens.now xs.now ys.now
+-- the same, of lists that rule 11 has let pass
+abbrev pub outlines_in : Lists → List Outline
+outlines_in l = outlines_of l.types.now l.counts.now l.lens.now l.xs.now l.ys.now
 
 -- by part length, x and y: as many vertices as the first length says are the first part's
 unfoldable pub parts_of : List ℕ → List ℕ → List ℕ → List Part

@@ -1,6 +1,5 @@
 -- Rules 12 to 16 of a page's contents, each over all of its shapes. Assumes nothing.
 use Rattle.std.specs.Prelude.{ℕ, ◌-◌, Bool, true, ◌&&◌, ◌||◌, not, List, [], ◌∷◌, ltb, eqb, ℤ, length, get_or}
-use Rattle.std.specs.Borrow.{Bor}
 use Rattle.answer.specs.Table as table
 use Rattle.answer.specs.Outcome.{Out, on}
 use Rattle.answer.specs.Rule.{rule}
@@ -11,6 +10,7 @@ use Rattle.extent.specs.declared.bounds.Bounds.{Bounds}
 use Rattle.extent.specs.Boxes.{box_of, same_box}
 use Rattle.grid.specs.Grid.{all_on_grid}
 use Rattle.grid.specs.Turn.{turn_of, clockwise, zero_turn}
+use Rattle.shape.specs.declared.lists.Lists.{Lists}
 use Rattle.shape.specs.Outline.{Outline, Part, outlines_in, parts_of}
 
 -- the parts of a shape
@@ -104,9 +104,9 @@ outline_rules os xs ys =
     on (grid_rule os) (λ _.
     turn_rule os)))
 
--- the same of a page's shapes, by the five slices
-abbrev pub outline_rules_in : Bor (List ℕ) → Bor (List ℕ) → Bor (List ℕ) → Bor (List ℕ) → Bor (List ℕ) → Out (Unit {0})
-outline_rules_in types counts lens xs ys = outline_rules (outlines_in types counts lens xs ys) xs.now ys.now
+-- the same of a page's lists
+abbrev pub outline_rules_in : Lists → Out (Unit {0})
+outline_rules_in l = outline_rules (outlines_in l) l.xs.now l.ys.now
 
 -- those behind 12, for inner steps; no service speaks of it
 unfoldable pub ring_rules : List Outline → Out (Unit {0})

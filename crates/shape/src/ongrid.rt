@@ -10,11 +10,5 @@ use types::rows::MULTI_POLYGON;
 pub fn on_grid_shape(t: u8, lens: &[u16], xs: &[u64], ys: &[u64]) -> bool
     ensures { result ≡ on_grid_shape (outline_with t lens.now xs.now ys.now) }
 {
-    if t == MULTI_POLYGON {
-        if all_on_grid(xs) {
-            return all_on_grid(ys);
-        }
-        return false;
-    }
-    true
+    t != MULTI_POLYGON || (all_on_grid(xs) && all_on_grid(ys))
 }

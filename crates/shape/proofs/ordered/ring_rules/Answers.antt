@@ -1,24 +1,22 @@
--- `shape::ordered::ring_rules` gives the verdict of rules 13 to 15, in order: a law for each return. Assumes nothing.
-use Rattle.shape.specs.Outline.{outlines_of}
+-- `shape::ordered::ring_rules` gives the answer of rules 13 to 15, in order: a law for each return. Assumes nothing.
+use mathlib.Core.Path.{sym, ◌∙◌}
+use Rattle.answer.proofs.Outcomes.{handed-on}
+use Rattle.shape.specs.Outline.{outlines_in}
 use Rattle.shape.proofs.Ruled.{grid-held, ruled-ring, ruled-grid, ruled-turn}
 use Rattle.shape.proofs.ordered.ring_rules.Goals as goal
 
-pub returns-in-Refused : goal.returns-in-Refused
-returns-in-Refused c = ruled-ring _ c.in-Refused.w (rw c.in-Refused.is at c.ring_rule.ensures)
+pub returns-in_err-ring_rule : goal.returns-in_err-ring_rule
+returns-in_err-ring_rule c = handed-on c.from_residual.ensures.1 ∙ ruled-ring _ _ (sym c.in_err-ring_rule.was ∙ c.ring_rule.ensures)
 
-pub returns-in-Refused-grid_rule : goal.returns-in-Refused-grid_rule
-returns-in-Refused-grid_rule c =
-    ruled-grid _ (rw c.in_default.is at c.ring_rule.ensures) c.in-Refused-grid_rule.w
-    (rw c.in-Refused-grid_rule.is at c.grid_rule.ensures)
+pub returns-in_err-grid_rule : goal.returns-in_err-grid_rule
+returns-in_err-grid_rule c =
+    handed-on c.from_residual-in_err-grid_rule.ensures.1
+    ∙ ruled-grid _ (sym c.in_ok-ring_rule.was ∙ c.ring_rule.ensures) _ (sym c.in_err-grid_rule.was ∙ c.grid_rule.ensures)
 
 pub turn_rule-requires : goal.turn_rule-requires
-turn_rule-requires c =
-    let a = c.args in
-    let os = outlines_of a.types.now a.counts.now a.lens.now a.xs.now a.ys.now in
-    let p = c.requires in
-    record { parted = p; ys_value = grid-held os (rw c.in_default-grid_rule.is at c.grid_rule.ensures) }
+turn_rule-requires c = grid-held (outlines_in c.args.lists) (sym c.in_ok-grid_rule.was ∙ c.grid_rule.ensures)
 
 pub returns : goal.returns
 returns c =
-    ruled-turn _ (rw c.in_default.is at c.ring_rule.ensures) c.turn_rule.result
-    (rw c.in_default-grid_rule.is at c.grid_rule.ensures) c.turn_rule.ensures
+    ruled-turn _ (sym c.in_ok-ring_rule.was ∙ c.ring_rule.ensures) c.turn_rule.result
+    (sym c.in_ok-grid_rule.was ∙ c.grid_rule.ensures) c.turn_rule.ensures

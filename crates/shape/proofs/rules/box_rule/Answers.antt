@@ -6,4 +6,4 @@ use Rattle.answer.specs.Rule.{rule}
 use Rattle.shape.proofs.rules.box_rule.Goals as goal
 
 pub returns : goal.returns
-returns c = c.of.ensures ∙ ap (λ (t : Bool). rule t table.box) c.box_holds.ensures
+returns c = c.rule.ensures ∙ ap (λ (t : Bool). rule t table.box) c.box_holds.ensures

@@ -1,192 +1,95 @@
 -- `shape::rules::each_shape` tests each shape: those to come, with the parts and the vertices to come, decide. Assumes nothing.
-use mathlib.Core.Path.{refl, sym, ap, ◌∙◌}
+use mathlib.Core.Path.{◌≡◌, refl, sym, ap, ◌∙◌}
+use mathlib.Core.List.{[], ◌∷◌, ◌++◌}
 use Prim.Native.Nat.{ℕ, ◌+◌, ◌-◌, ◌≤◌, ◌<◌}
 use native.Mathlib.Omega.{arith}
-use borrow.Author.Tests.{not-true, not-false}
-use lib.ListN.{length, get_or, take, drop}
+use lib.ListN.{length, get_or, take, drop, length-append}
+use Rattle.std.proofs.lemmas.Slice.Zip.{zip_turn, zip_end}
 use Rattle.types.specs.Parts.{total}
 use Rattle.answer.proofs.Alls.{all_more, all-stop, all_here, all_done}
-use Rattle.shape.specs.Outline.{outlines_of}
-use Rattle.shape.specs.Which.{test_of, ready_for}
-use Rattle.shape.proofs.Walking.{walking-none, walking-counted, walking-table, walking-parts, walking-there, walking-cut, walking-stands, walking-more, walking-end}
+use Rattle.shape.specs.Outline.{outlines_in}
+use Rattle.shape.proofs.Walking.{walking-none, walking-table, walking-parts, walking-there, outline_at, walking-stands, walking-more, walking-end, walking-long}
+use Rattle.shape.proofs.rules.each_shape.Given.{Over}
 use Rattle.shape.proofs.rules.each_shape.Goals as goal
+use Rattle.shape.proofs.rules.each_shape.Goals.{In-Some}
 
-pub loop-i-init : goal.loop-i-init
-loop-i-init c =
-    let s = c in
-    let a = s.args in
-    (walking-none a.types.now a.counts.now a.lens.now a.xs.now a.ys.now s.requires.parted.parts s.requires.parted.same, refl)
+-- the shape of this turn: its type and its part count are those at i
+module _ (g : Over) (c : In-Some g) where
+  abbrev i : ℕ
+  i = length c.loop-t.yielded
 
-pub offset_bounds-counts-i : goal.offset_bounds-counts-i
-offset_bounds-counts-i c = omega (
-  arith,
-  (let counted_is : c.loop-i.i < length c.args.counts.now = let a = c.args in
-      let l = c.loop-i in
-      walking-counted a.types.now a.counts.now a.lens.now a.xs.now a.ys.now l.i l.k l.at l.invariant.0 c.loop-i-test.true in counted_is),
-)
+  abbrev e : ℕ
+  e = c.loop-t.k + c.in-Some.n.now
 
-pub bounds-counts-i : goal.bounds-counts-i
-bounds-counts-i c = omega (
-  arith,
-  (let counted_is : c.loop-i.i < length c.args.counts.now = let a = c.args in
-      let l = c.loop-i in
-      walking-counted a.types.now a.counts.now a.lens.now a.xs.now a.ys.now l.i l.k l.at l.invariant.0 c.loop-i-test.true in counted_is),
-)
+  turn : (i < length c.args.lists.types.now) × (i < length c.args.lists.counts.now)
+      × ((d : ℕ) → c.in-Some.t.now ≡ get_or c.args.lists.types.now i d) × ((d : ℕ) → c.in-Some.n.now ≡ get_or c.args.lists.counts.now i d)
+  turn =
+      zip_turn _ _ c.loop-t.yielded c.into_iter-t-iterator.result c.loop-t.t-iterator c.next.new.self c.next.result (cc) (cc) c.loop-t.yielded_by
+      (c.in-Some.t, c.in-Some.n) c.in-Some.is c.next.ensures.steps
 
-pub overflow_cast-e : goal.overflow_cast-e
-overflow_cast-e c = omega (arith, c.shared_slice_known-in-loop-i-1.given c.loop-i.i)
+  d : e ≡ c.loop-t.k + get_or c.args.lists.counts.now i 0
+  d = ap (λ (n : ℕ). c.loop-t.k + n) (turn.3 0)
 
-pub overflow_add-e : goal.overflow_add-e
-overflow_add-e c = omega (
-  arith,
-  (let parts_is : c.loop-i.k + get_or c.args.counts.now c.loop-i.i 0 ≤ length c.args.lens.now = let a = c.args in
-      let l = c.loop-i in
-      walking-parts a.types.now a.counts.now a.lens.now a.xs.now a.ys.now l.i l.k l.at l.invariant.0 c.loop-i-test.true in parts_is),
-)
+  parts : e ≤ length c.args.lists.lens.now
+  parts = omega (arith, walking-parts _ _ _ _ c.loop-t.invariant.0 turn.0, d)
 
-pub offset_bounds-lens-k : goal.offset_bounds-lens-k
-offset_bounds-lens-k c = omega (
-  arith,
-  (let parts_is : c.loop-i.k + get_or c.args.counts.now c.loop-i.i 0 ≤ length c.args.lens.now = let a = c.args in
-      let l = c.loop-i in
-      walking-parts a.types.now a.counts.now a.lens.now a.xs.now a.ys.now l.i l.k l.at l.invariant.0 c.loop-i-test.true in parts_is),
-)
+  inside : c.loop-t.at + total (take (e - c.loop-t.k) (drop c.loop-t.k c.args.lists.lens.now)) ≤ length c.args.lists.xs.now
+  inside = walking-there _ _ _ _ c.loop-t.invariant.0 turn.0 _ _ d refl
+
+  -- and with the sum of its part lengths, its vertices
+  module _ (r : ℕ) (q : r ≡ total (take (e - c.loop-t.k) (drop c.loop-t.k c.args.lists.lens.now))) where
+    to : c.loop-t.at + r ≡ c.loop-t.at + total (take (e - c.loop-t.k) (drop c.loop-t.k c.args.lists.lens.now))
+    to = ap (λ (n : ℕ). c.loop-t.at + n) q
+
+    stands : drop i (outlines_in c.args.lists)
+        ≡ outline_at c.in-Some.t.now c.args.lists.lens.now c.args.lists.xs.now c.args.lists.ys.now c.loop-t.k e c.loop-t.at (c.loop-t.at + r)
+        ∷ drop (i + 1) (outlines_in c.args.lists)
+    stands = rw (turn.2 0) (walking-stands _ _ _ _ c.loop-t.invariant.0 turn.0 _ _ d to)
+
+pub loop-t-init : goal.loop-t-init
+loop-t-init g c = (walking-none _, refl)
 
 pub slice_bounds-total-end : goal.slice_bounds-total-end
-slice_bounds-total-end c = omega (
-  arith,
-  (let parts_is : c.loop-i.k + get_or c.args.counts.now c.loop-i.i 0 ≤ length c.args.lens.now = let a = c.args in
-      let l = c.loop-i in
-      walking-parts a.types.now a.counts.now a.lens.now a.xs.now a.ys.now l.i l.k l.at l.invariant.0 c.loop-i-test.true in parts_is),
-)
+slice_bounds-total-end g c = omega (arith, parts g (goal.at.slice_bounds-total-end g c).In-Some)
 
 pub total-requires : goal.total-requires
-total-requires c = omega (
-  arith,
-  (let inside_is : c.loop-i.at + total (take (c.loop-i.k + get_or c.args.counts.now c.loop-i.i 0 - c.loop-i.k) (drop c.loop-i.k c.args.lens.now))
-      ≤ length c.args.xs.now = let a = c.args in
-      let l = c.loop-i in
-      walking-there a.types.now a.counts.now a.lens.now a.xs.now a.ys.now l.i l.k l.at l.invariant.0 c.loop-i-test.true (l.k + get_or a.counts.now l.i 0) _ refl refl in inside_is),
-)
+total-requires g c = omega (arith, inside g (goal.at.total-requires g c).In-Some)
 
 pub overflow_add-end : goal.overflow_add-end
-overflow_add-end c = omega (
-  arith,
-  (let inside_is : c.loop-i.at + total (take (c.loop-i.k + get_or c.args.counts.now c.loop-i.i 0 - c.loop-i.k) (drop c.loop-i.k c.args.lens.now))
-      ≤ length c.args.xs.now = let a = c.args in
-      let l = c.loop-i in
-      walking-there a.types.now a.counts.now a.lens.now a.xs.now a.ys.now l.i l.k l.at l.invariant.0 c.loop-i-test.true (l.k + get_or a.counts.now l.i 0) _ refl refl in inside_is),
-  c.total.ensures,
-)
+overflow_add-end g c = omega (arith, inside g (goal.at.overflow_add-end g c).In-Some, c.total.ensures)
 
-pub offset_bounds-lens-k-in-loop-i : goal.offset_bounds-lens-k-in-loop-i
-offset_bounds-lens-k-in-loop-i c = omega (
-  arith,
-  (let parts_is : c.loop-i.k + get_or c.args.counts.now c.loop-i.i 0 ≤ length c.args.lens.now = let a = c.args in
-      let l = c.loop-i in
-      walking-parts a.types.now a.counts.now a.lens.now a.xs.now a.ys.now l.i l.k l.at l.invariant.0 c.loop-i-test.true in parts_is),
-)
+pub slice_bounds-holds-end-in-loop-t : goal.slice_bounds-holds-end-in-loop-t
+slice_bounds-holds-end-in-loop-t g c = omega (arith, inside g (goal.at.slice_bounds-holds-end-in-loop-t g c).In-Some, c.total.ensures)
 
-pub slice_bounds-shape_holds-end : goal.slice_bounds-shape_holds-end
-slice_bounds-shape_holds-end c = omega (
-  arith,
-  (let parts_is : c.loop-i.k + get_or c.args.counts.now c.loop-i.i 0 ≤ length c.args.lens.now = let a = c.args in
-      let l = c.loop-i in
-      walking-parts a.types.now a.counts.now a.lens.now a.xs.now a.ys.now l.i l.k l.at l.invariant.0 c.loop-i-test.true in parts_is),
-)
+pub holds-requires-clause-t_le_last_type : goal.holds-requires-clause-t_le_last_type
+holds-requires-clause-t_le_last_type g c =
+    let u = turn g (goal.at.holds-requires-clause-t_le_last_type g c).In-Some in
+    rw (u.2 0) (walking-table _ _ _ _ c.loop-t.invariant.0 u.0).known
 
-pub offset_bounds-xs-at : goal.offset_bounds-xs-at
-offset_bounds-xs-at c = omega (
-  arith,
-  (let there_is : c.loop-i.at + c.total.result ≤ length c.args.xs.now = omega (
-    arith,
-    (let inside_is : c.loop-i.at + total (take (c.loop-i.k + get_or c.args.counts.now c.loop-i.i 0 - c.loop-i.k) (drop c.loop-i.k c.args.lens.now))
-        ≤ length c.args.xs.now = let a = c.args in
-        let l = c.loop-i in
-        walking-there a.types.now a.counts.now a.lens.now a.xs.now a.ys.now l.i l.k l.at l.invariant.0 c.loop-i-test.true (l.k + get_or a.counts.now l.i 0) _ refl refl in inside_is),
-    c.total.ensures,
-  ) in there_is),
-)
+pub holds-requires-clause-ys_value : goal.holds-requires-clause-ys_value
+holds-requires-clause-ys_value g c =
+    all_here g.R.ShapeRule.ready _ _ _
+    (stands g (goal.at.holds-requires-clause-ys_value g c).In-Some _ c.total.ensures) c.requires
 
-pub slice_bounds-shape_holds-end-in-loop-i : goal.slice_bounds-shape_holds-end-in-loop-i
-slice_bounds-shape_holds-end-in-loop-i c = omega (
-  arith,
-  (let there_is : c.loop-i.at + c.total.result ≤ length c.args.xs.now = omega (
-    arith,
-    (let inside_is : c.loop-i.at + total (take (c.loop-i.k + get_or c.args.counts.now c.loop-i.i 0 - c.loop-i.k) (drop c.loop-i.k c.args.lens.now))
-        ≤ length c.args.xs.now = let a = c.args in
-        let l = c.loop-i in
-        walking-there a.types.now a.counts.now a.lens.now a.xs.now a.ys.now l.i l.k l.at l.invariant.0 c.loop-i-test.true (l.k + get_or a.counts.now l.i 0) _ refl refl in inside_is),
-    c.total.ensures,
-  ) in there_is),
-)
+pub returns-then-not-holds : goal.returns-then-not-holds
+returns-then-not-holds g c =
+    all-stop g.R.ShapeRule.test _ _ _ (stands g (goal.at.returns-then-not-holds g c).In-Some _ c.total.ensures)
+    (sym c.holds.ensures ∙ c.if-not-holds.true) c.loop-t.invariant.1
 
-pub offset_bounds-ys-at : goal.offset_bounds-ys-at
-offset_bounds-ys-at c = omega (
-  arith,
-  (let there_is : c.loop-i.at + c.total.result ≤ length c.args.xs.now = omega (
-    arith,
-    (let inside_is : c.loop-i.at + total (take (c.loop-i.k + get_or c.args.counts.now c.loop-i.i 0 - c.loop-i.k) (drop c.loop-i.k c.args.lens.now))
-        ≤ length c.args.xs.now = let a = c.args in
-        let l = c.loop-i in
-        walking-there a.types.now a.counts.now a.lens.now a.xs.now a.ys.now l.i l.k l.at l.invariant.0 c.loop-i-test.true (l.k + get_or a.counts.now l.i 0) _ refl refl in inside_is),
-    c.total.ensures,
-  ) in there_is),
-)
-
-pub slice_bounds-shape_holds-end-in-loop-i-2 : goal.slice_bounds-shape_holds-end-in-loop-i-2
-slice_bounds-shape_holds-end-in-loop-i-2 c = omega (
-  arith,
-  (let there_is : c.loop-i.at + c.total.result ≤ length c.args.xs.now = omega (
-    arith,
-    (let inside_is : c.loop-i.at + total (take (c.loop-i.k + get_or c.args.counts.now c.loop-i.i 0 - c.loop-i.k) (drop c.loop-i.k c.args.lens.now))
-        ≤ length c.args.xs.now = let a = c.args in
-        let l = c.loop-i in
-        walking-there a.types.now a.counts.now a.lens.now a.xs.now a.ys.now l.i l.k l.at l.invariant.0 c.loop-i-test.true (l.k + get_or a.counts.now l.i 0) _ refl refl in inside_is),
-    c.total.ensures,
-  ) in there_is),
-  c.loop-i.invariant.0.same,
-)
-
-pub shape_holds-requires : goal.shape_holds-requires
-shape_holds-requires c =
-    let loop-test = c.loop-i-test in
-    let total' = c.total in
-    let a = c.args in
-    let l = c.loop-i in
-    let t = loop-test.true in
-    let e = l.k + get_or a.counts.now l.i 0 in
-    let end = l.at + total'.result in
-    let g = ap (λ (n : ℕ). l.at + n) total'.ensures in record { t_le_last_type = (walking-table a.types.now a.counts.now a.lens.now a.xs.now a.ys.now l.i l.k l.at l.invariant.0 t).known; cut = walking-cut a.types.now a.counts.now a.lens.now a.xs.now a.ys.now l.i l.k l.at l.invariant.0 t e end refl g; ys_value = all_here (ready_for a.w) (outlines_of a.types.now a.counts.now a.lens.now a.xs.now a.ys.now) l.i _ (walking-stands a.types.now a.counts.now a.lens.now a.xs.now a.ys.now l.i l.k l.at l.invariant.0 t e end refl g) c.requires.ys_value }
-
-pub returns-then-not-shape_holds : goal.returns-then-not-shape_holds
-returns-then-not-shape_holds c =
-    let loop-test = c.loop-i-test in
-    let total' = c.total in
-    let a = c.args in
-    let l = c.loop-i in
-    let t = loop-test.true in
-    let e = l.k + get_or a.counts.now l.i 0 in
-    let end = l.at + total'.result in
-    let g = ap (λ (n : ℕ). l.at + n) total'.ensures in
-    all-stop (test_of a.w) (outlines_of a.types.now a.counts.now a.lens.now a.xs.now a.ys.now) l.i _ (walking-stands a.types.now a.counts.now a.lens.now a.xs.now a.ys.now l.i l.k l.at l.invariant.0 t e end refl g) (sym c.shape_holds.ensures ∙ not-true _ c.if-not-shape_holds.true-raw) l.invariant.1
-
-pub loop-i-preserved : goal.loop-i-preserved
-loop-i-preserved c =
-    let loop-test = c.loop-i-test in
-    let total' = c.total in
-    let a = c.args in
-    let l = c.loop-i in
-    let t = loop-test.true in
-    let e = l.k + get_or a.counts.now l.i 0 in
-    let end = l.at + total'.result in
-    let g = ap (λ (n : ℕ). l.at + n) total'.ensures in (
-      walking-more a.types.now a.counts.now a.lens.now a.xs.now a.ys.now l.i l.k l.at l.invariant.0 t e end refl g,
-      all_more (test_of a.w) (outlines_of a.types.now a.counts.now a.lens.now a.xs.now a.ys.now) l.i _ (walking-stands a.types.now a.counts.now a.lens.now a.xs.now a.ys.now l.i l.k l.at l.invariant.0 t e end refl g) (sym c.shape_holds.ensures ∙ not-false _ c.if-not-shape_holds.false-raw) l.invariant.1,
+pub loop-t-preserved : goal.loop-t-preserved
+loop-t-preserved g c =
+    let s = (goal.at.loop-t-preserved g c).In-Some in
+    let l : length (c.loop-t.yielded ++ ((c.in-Some.t, c.in-Some.n) ∷ [])) ≡ length c.loop-t.yielded + 1 =
+    length-append c.loop-t.yielded ((c.in-Some.t, c.in-Some.n) ∷ []) in
+    rw l (
+      walking-more _ _ _ _ c.loop-t.invariant.0 (turn g s).0 _ _ (d g s) (to g s _ c.total.ensures),
+      all_more g.R.ShapeRule.test _ _ _ (stands g s _ c.total.ensures) (sym c.holds.ensures ∙ c.if-not-holds.false) c.loop-t.invariant.1,
     )
 
 pub returns : goal.returns
-returns c =
-    let a = c.args in
-    let l = c.loop-i in
-    all_done (test_of a.w) (outlines_of a.types.now a.counts.now a.lens.now a.xs.now a.ys.now) l.i (walking-end a.types.now a.counts.now a.lens.now a.xs.now a.ys.now l.i l.k l.at l.invariant.0 c.loop-i-test.false) l.invariant.1
+returns g c =
+    let n =
+    zip_end c.args.lists.types.now c.args.lists.counts.now c.loop-t.yielded c.into_iter-t-iterator.result c.loop-t.t-iterator c.next.new.self c.next.result (cc) (cc)
+    c.loop-t.yielded_by c.in-None.is c.next.ensures.steps in
+    let all = walking-end _ _ _ _ c.loop-t.invariant.0 (omega (arith, n, walking-long _ _ _ _ c.loop-t.invariant.0)) in
+    all_done g.R.ShapeRule.test _ _ all c.loop-t.invariant.1

@@ -1,12 +1,15 @@
 -- `shape::rules::grid_rule` gives the verdict of rule 14. Assumes nothing.
-use mathlib.Core.Path.{◌∙◌}
-use Rattle.shape.proofs.Whiches.{ready-grid, verdict-grid}
+use mathlib.Core.Path.{ap, ◌∙◌}
+use mathlib.Core.Bool.{Bool}
+use Rattle.answer.specs.Table as table
+use Rattle.answer.specs.Rule.{rule}
+use Rattle.shape.specs.Rules.{grid_rule}
+use Rattle.shape.proofs.Whiches.{all-always}
 use Rattle.shape.proofs.rules.grid_rule.Goals as goal
 
 pub shapes_hold-requires : goal.shapes_hold-requires
-shapes_hold-requires c =
-    let pre = c.requires in
-    record { parted = pre; ys_value = ready-grid _ }
+shapes_hold-requires c = all-always _
 
 pub returns : goal.returns
-returns c = c.of.ensures ∙ verdict-grid _ _ c.shapes_hold.ensures
+unfolding grid_rule
+returns c = c.rule.ensures ∙ ap (λ (t : Bool). rule t table.grid) c.shapes_hold.ensures

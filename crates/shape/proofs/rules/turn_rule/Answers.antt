@@ -1,10 +1,15 @@
 -- `shape::rules::turn_rule` gives the verdict of rule 15. Assumes nothing.
-use mathlib.Core.Path.{◌∙◌}
-use Rattle.shape.proofs.Whiches.{ready-turns, verdict-turn}
+use mathlib.Core.Path.{ap, ◌∙◌}
+use mathlib.Core.Bool.{Bool}
+use Rattle.answer.specs.Table as table
+use Rattle.answer.specs.Rule.{rule}
+use Rattle.shape.specs.Rules.{turn_rule}
+use Rattle.shape.proofs.Whiches.{all-turnable}
 use Rattle.shape.proofs.rules.turn_rule.Goals as goal
 
 pub shapes_hold-requires : goal.shapes_hold-requires
-shapes_hold-requires c = record { parted = c.requires.parted; ys_value = ready-turns _ _ _ _ _ c.requires.parted.few c.requires.ys_value }
+shapes_hold-requires c = all-turnable _ _ _ _ _ c.args.lists.parted.few c.requires
 
 pub returns : goal.returns
-returns c = c.of.ensures ∙ verdict-turn _ _ c.shapes_hold.ensures
+unfolding turn_rule
+returns c = c.rule.ensures ∙ ap (λ (t : Bool). rule t table.turn) c.shapes_hold.ensures

@@ -11,6 +11,4 @@ turn-requires c = let g = c.requires in (g.same, g.few, g.grid_x, g.grid_y)
 
 pub returns : goal.returns
 unfolding turn_not_zero ring_turn
-returns c =
-    let s = c in
-    ap not (c.no_turn.ensures ∙ ap zero_turn (turn-back s.args.xs.now s.args.ys.now c.turn.result c.turn.ensures s.requires))
+returns c = ap not (c.no_turn.ensures ∙ ap zero_turn (turn-back c.args.xs.now c.args.ys.now c.turn.result c.turn.ensures c.requires))

@@ -9,16 +9,15 @@ use Rattle.shape.proofs.turned.turns_hold.Goals as goal
 pub rings_turned-requires : goal.rings_turned-requires
 unfolding on_grid_shape
 rings_turned-requires c =
-    let s = c in
-    let g = decided _ _ (eq-eqb _ _ c.if-t-eq-MULTI_POLYGON.true) s.requires.ys_value in
-    let x = all_on_grid s.args.xs.now in
-    let y = all_on_grid s.args.ys.now in
-    (s.requires.cut, record { same = s.requires.cut.same; few = s.requires.xs_len_bound; grid_x = both_l x y g; grid_y = both_r x y g })
+    let g = decided _ _ (eq-eqb _ _ c.if-t-ne-MULTI_POLYGON.false) c.requires.ys_value in
+    let x = all_on_grid c.args.xs.now in
+    let y = all_on_grid c.args.ys.now in
+    (c.requires.cut, record { same = c.requires.cut.same; few = c.requires.xs_len_bound; grid_x = both_l x y g; grid_y = both_r x y g })
 
-pub returns-then-t-eq-MULTI_POLYGON : goal.returns-then-t-eq-MULTI_POLYGON
+pub returns-then-t-ne-MULTI_POLYGON : goal.returns-then-t-ne-MULTI_POLYGON
 unfolding turns_hold
-returns-then-t-eq-MULTI_POLYGON c = decides _ _ _ (eq-eqb _ _ c.if-t-eq-MULTI_POLYGON.true) c.rings_turned.ensures
+returns-then-t-ne-MULTI_POLYGON c = skipped _ _ (ne_eqb _ _ c.if-t-ne-MULTI_POLYGON.true)
 
-pub returns : goal.returns
+pub returns-else-t-ne-MULTI_POLYGON : goal.returns-else-t-ne-MULTI_POLYGON
 unfolding turns_hold
-returns c = skipped _ _ (ne_eqb _ _ c.if-t-eq-MULTI_POLYGON.false)
+returns-else-t-ne-MULTI_POLYGON c = decides _ _ _ (eq-eqb _ _ c.if-t-ne-MULTI_POLYGON.false) c.rings_turned.ensures
