@@ -7,12 +7,9 @@ use native.Mathlib.Omega.{arith}
 use lib.ListN.{length, take, drop}
 use Rattle.answer.specs.Table as table
 use Rattle.answer.specs.Outcome.{Out, refused, ok, on}
-use Rattle.answer.specs.Rule.{judged}
 use Rattle.answer.specs.declared.Refusal.{Refusal}
-use Rattle.answer.specs.declared.Verdict.{Verdict}
-use Rattle.answer.specs.declared.Verdict.TheVariants.{Holds, Refused}
 use Rattle.answer.proofs.Outcomes.{on-ok}
-use Rattle.answer.proofs.Rules.{judged-holds, passed_ok, passed-refused, refused-passed, rule-ok}
+use Rattle.answer.proofs.Rules.{passed_ok, passed-refused, refused-passed, rule-ok}
 use Rattle.le.specs.Number.{numbers_at, Bytes}
 use Rattle.extent.specs.Boxes.{patterns, FiniteBox}
 use Rattle.types.specs.Parts.{parts_hold, parts_rule}
@@ -91,17 +88,17 @@ module _ (h : Head) (b counts lens xs ys types : List ℕ) (v : ℕ) (ec : count
   first : parts_rule types counts lens v ≡ parts_rule (types_of h b) (counts_of h b) (lens_of h b) h.v
   first = rw (← ec, ← el, ← et, ← ev)
 
-  refused-loads : (w : Refusal) → contents_of h b ≡ refused w → Loads h b (Refused w) counts lens xs ys
+  refused-loads : (w : Refusal) → contents_of h b ≡ refused w → Loads h b (refused w) counts lens xs ys
   refused-loads w e = record { verdict = passed-refused w e; lists = λ q. absurd (let z : ◌≡◌ {A = ℕ} 0 1 = cc in omega arith) }
 
   -- 11
-  pub loads-parts : (w : Refusal) → judged (Refused w) ≡ parts_rule types counts lens v → Loads h b (Refused w) counts lens xs ys
+  pub loads-parts : (w : Refusal) → refused w ≡ parts_rule types counts lens v → Loads h b (refused w) counts lens xs ys
   unfolding contents_of
   loads-parts w e = refused-loads w (then-refused (parts_rule (types_of h b) (counts_of h b) (lens_of h b) h.v) _ w (e ∙ first))
 
-  module _ (pr : judged Holds ≡ parts_rule types counts lens v) where
+  module _ (pr : (ok tt) ≡ parts_rule types counts lens v) where
     -- 8, 9, 10 of a column
-    pub loads-columns : (w : Refusal) → Columns h b (Refused w) xs ys → Loads h b (Refused w) counts lens xs ys
+    pub loads-columns : (w : Refusal) → Columns h b (refused w) xs ys → Loads h b (refused w) counts lens xs ys
     unfolding contents_of
     loads-columns w c =
         refused-loads w
@@ -109,10 +106,10 @@ module _ (h : Head) (b counts lens xs ys types : List ℕ) (v : ℕ) (ec : count
         ∙ on-refused (vertices_of h b) _ w (refused-passed (vertices_of h b) w c.verdict))
 
     pub loads-holds : parts_hold types counts lens v ≡ true
-    loads-holds = parts-passed types counts lens v tt (sym pr ∙ judged-holds)
+    loads-holds = parts-passed types counts lens v tt (sym pr)
 
     -- the rules over the shapes
-    module _ (c : Columns h b Holds xs ys) where
+    module _ (c : Columns h b (ok tt) xs ys) where
       abbrev pub os : List Outline
       os = outlines_of types counts lens xs ys
 
@@ -142,8 +139,8 @@ module _ (h : Head) (b counts lens xs ys types : List ℕ) (v : ℕ) (ec : count
             shapes = contents ∙ on_value rules _ tt e ∙ rw (← et);
           }
 
-      pub loads-rules : (r : Verdict) → judged r ≡ rules → Loads h b r counts lens xs ys
-      loads-rules (Refused w) e = refused-loads w (contents ∙ then-refused rules _ w e)
-      loads-rules Holds e =
-          let k : rules ≡ ok tt = sym e ∙ judged-holds in
+      pub loads-rules : (r : Out (Unit {0})) → r ≡ rules → Loads h b r counts lens xs ys
+      loads-rules (refused w) e = refused-loads w (contents ∙ then-refused rules _ w e)
+      loads-rules (ok tt) e =
+          let k : rules ≡ ok tt = sym e in
           record { verdict = passed_ok _ (contents ∙ on_value rules _ tt k); lists = λ _. held k }

@@ -6,11 +6,9 @@ use native.Mathlib.Omega.{arith}
 use lib.ListN.{length, take, drop}
 use Rattle.answer.specs.Axis as Axis
 use Rattle.answer.specs.Refusal.{on_column}
-use Rattle.answer.specs.Outcome.{refused, ok, on}
+use Rattle.answer.specs.Outcome.{refused, ok, on, Out}
 use Rattle.answer.specs.Rule.{passed}
 use Rattle.answer.specs.declared.Refusal.{Refusal}
-use Rattle.answer.specs.declared.Verdict.{Verdict}
-use Rattle.answer.specs.declared.Verdict.TheVariants.{Holds, Refused}
 use Rattle.answer.proofs.Rules.{passed-refused, refused-passed, passed_on}
 use Rattle.answer.proofs.Outcomes.{ok-inj, on-ok, marked-ok}
 use Rattle.column.proofs.Decoding.{scratch-ok}
@@ -34,7 +32,7 @@ y-part h b y end d e =
 
 module _ (h : Head) (b xs ys s : List ℕ) (n : ℕ) (e : s ≡ x_part h b) (l : n ≡ h.v) where
   -- the x column is refused
-  pub columns-refused : (w : Refusal) → Scratched (column_of Axis.x s n) (Refused w) xs → Columns h b (Refused w) xs ys
+  pub columns-refused : (w : Refusal) → Scratched (column_of Axis.x s n) (refused w) xs → Columns h b (refused w) xs ys
   unfolding vertices_of on
   columns-refused w g =
       let o : column_of Axis.x (x_part h b) h.v ≡ refused w = ap₂ (column_of Axis.x) (sym e) (sym l) ∙ refused-passed _ w g.verdict in
@@ -42,7 +40,7 @@ module _ (h : Head) (b xs ys s : List ℕ) (n : ℕ) (e : s ≡ x_part h b) (l :
       record { verdict = passed-refused w r; vertices = λ q. absurd (let y : ◌≡◌ {A = ℕ} 0 1 = cc in omega arith) }
 
   -- the x column is read, and the y column is what it is
-  pub columns-both : (t : List ℕ) (m : ℕ) (r : Verdict) → t ≡ y_part h b → m ≡ h.v → Scratched (column_of Axis.x s n) Holds xs → Scratched (column_of Axis.y t m) r ys
+  pub columns-both : (t : List ℕ) (m : ℕ) (r : Out (Unit {0})) → t ≡ y_part h b → m ≡ h.v → Scratched (column_of Axis.x s n) (ok tt) xs → Scratched (column_of Axis.y t m) r ys
       → Columns h b r xs ys
   unfolding vertices_of on
   columns-both t m r f k g u =

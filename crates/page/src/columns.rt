@@ -5,23 +5,21 @@ ghost use Rattle.page.specs.Contents.{column_of};
 ghost use Rattle.page.specs.Scratched.{Scratched};
 ghost use Rattle.page.specs.Loaded.{Columns};
 
-use answer::{Filled, Verdict, axis};
+use answer::{Refusal, axis, in_column};
 use frame::head::Head;
 
 // As many values of a page's column, x or y, as the scratch holds.
-pub(crate) fn column_into(s: &[u8], column: u8, out: &mut [u64]) -> Verdict
+pub(crate) fn column_into(s: &[u8], column: u8, out: &mut [u64]) -> Result<(), Refusal>
     requires { length out.old ≤ vertex_limit }
     ensures { Scratched (column_of column s.now (length out.old)) result out.new }
 {
     let n = out.len();
-    match column::read::decode(s, n, out) {
-        Filled::Start(_) => Verdict::Holds,
-        Filled::Refused(w) => Verdict::Refused(w.on_column(column)),
-    }
+    in_column(column::read::decode(s, n, out), column)?;
+    Ok(())
 }
 
 // The x column and the y column of a page, each as the part of the body that holds it.
-pub(crate) fn columns(b: &[u8], h: Head, xs: &mut [u64], ys: &mut [u64]) -> Verdict
+pub(crate) fn columns(b: &[u8], h: Head, xs: &mut [u64], ys: &mut [u64]) -> Result<(), Refusal>
     requires b_len { length b.now ≡ h.layout.columns + h.cx + h.cy }
     requires v_le_most_vertices { h.v ≤ vertex_limit }
     requires xs_len { (length xs.old ≡ h.v) × (length ys.old ≡ h.v) }
@@ -30,8 +28,6 @@ pub(crate) fn columns(b: &[u8], h: Head, xs: &mut [u64], ys: &mut [u64]) -> Verd
     let x = h.layout.columns;
     let y = x + h.cx;
     let end = y + h.cy;
-    if let Verdict::Refused(w) = column_into(&b[x..y], axis::X, xs) {
-        return Verdict::Refused(w);
-    }
+    column_into(&b[x..y], axis::X, xs)?;
     column_into(&b[y..end], axis::Y, ys)
 }

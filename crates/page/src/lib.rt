@@ -4,3 +4,4 @@
 mod columns;
 mod contents;
 pub mod open;
+pub mod scratch;

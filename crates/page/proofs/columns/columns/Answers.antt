@@ -1,16 +1,19 @@
 -- `page::columns::columns` reads the x column and then the y column, each as its part of the body. Assumes nothing.
 use mathlib.Core.Path.{refl}
+use Rattle.answer.proofs.Outcomes.{handed-on}
 use Rattle.page.proofs.Vertices.{x-part, y-part, columns-refused, columns-both}
 use Rattle.page.proofs.columns.columns.Goals as goal
 
-pub returns-in-Refused : goal.returns-in-Refused
-returns-in-Refused c =
-    let column-into = c.column_into in
-    let st = c in
-    columns-refused st.args.h st.args.b.now _ _ _ _ (x-part st.args.h st.args.b.now _ _ refl refl) st.requires.xs_len.0 c.in-Refused.w (rw c.in-Refused.is at column-into.ensures)
+pub returns-in_err-column_into : goal.returns-in_err-column_into
+returns-in_err-column_into c =
+    let h = c.args.h in
+    let b = c.args.b.now in
+    rw (handed-on c.from_residual.ensures.1)
+    (columns-refused h b _ _ _ _ (x-part h b _ _ refl refl) c.requires.xs_len.0 _ (rw c.in_err-column_into.was at c.column_into.ensures))
 
 pub returns : goal.returns
 returns c =
-    let column-into = c.column_into in
-    let st = c in
-    columns-both st.args.h st.args.b.now _ _ _ _ (x-part st.args.h st.args.b.now _ _ refl refl) st.requires.xs_len.0 _ _ c.column_into-2.result (y-part st.args.h st.args.b.now _ _ refl refl) st.requires.xs_len.1 (rw c.in_default.is at column-into.ensures) c.column_into-2.ensures
+    let h = c.args.h in
+    let b = c.args.b.now in
+    columns-both h b _ _ _ _ (x-part h b _ _ refl refl) c.requires.xs_len.0 _ _ c.column_into-2.result (y-part h b _ _ refl refl) c.requires.xs_len.1
+    (rw c.in_ok-column_into.was at c.column_into.ensures) c.column_into-2.ensures
