@@ -15,7 +15,8 @@ use answer::Refusal;
 use answer::limits::MOST_VERTICES;
 use column::Position;
 
-// A value with the next position; or the end, or a refusal, with the position as it came.
+// A value with the next position; or the end, or a refusal, with the position as it came. No `Result`: each way gives a position, and one beside it
+// would be taken apart twice.
 #[derive(Clone, Copy)]
 pub enum Answer {
     Value(u64, Position),

@@ -13,22 +13,19 @@ use Rattle.step.proofs.later.Goals as goal
 
 pub returns-then-w-gt64 : goal.returns-then-w-gt64
 returns-then-w-gt64 c =
-    let st = c in
-    c.refused.ensures ∙ said-refused st.args.p (because Table.width) (later-wide 64 st.args.s.now st.args.n st.args.p c.if-w-gt64.true)
+    c.refused.ensures ∙ said-refused c.args.p (because Table.width) (later-wide 64 c.args.s.now c.args.n c.args.p c.if-w-gt64.true)
 
 pub returns-then-len-whole_bytes : goal.returns-then-len-whole_bytes
 returns-then-len-whole_bytes c =
-    let st = c in
     rw (c.refused_at.ensures, c.coming.ensures.0)
-    (said-refused st.args.p (at_value (coming st.args.n st.args.p.given) (because Table.bits))
-    (later-past 64 st.args.s.now st.args.n st.args.p c.if-w-gt64.false (omega (arith, c.whole_bytes.ensures, c.if-len-whole_bytes.true))))
+    (said-refused c.args.p (at_value (coming c.args.n c.args.p.given) (because Table.bits))
+    (later-past 64 c.args.s.now c.args.n c.args.p c.if-w-gt64.false (omega (arith, c.whole_bytes.ensures, c.if-len-whole_bytes.true))))
 
 pub returns-then-n-p : goal.returns-then-n-p
 returns-then-n-p c =
     let if1 = c.if-w-gt64 in
     let whole-bytes = c.whole_bytes in
-    let st = c in
-    c.end_at.ensures ∙ sym (ap (answer_with st.args.p) (later-end 64 st.args.s.now st.args.n st.args.p if1.false (omega (arith, whole-bytes.ensures, c.if-len-whole_bytes.false)) c.if-n-p.true))
+    c.end_at.ensures ∙ sym (ap (answer_with c.args.p) (later-end 64 c.args.s.now c.args.n c.args.p if1.false (omega (arith, whole-bytes.ensures, c.if-len-whole_bytes.false)) c.if-n-p.true))
 
 pub returns-then-runs_over : goal.returns-then-runs_over
 returns-then-runs_over c =
@@ -36,15 +33,13 @@ returns-then-runs_over c =
     let whole-bytes = c.whole_bytes in
     let if2 = c.if-len-whole_bytes in
     let if3 = c.if-n-p in
-    let st = c in
-    let over = over_yes c.runs_over.result st.args.p.at (size_at 64 (number st.args.s.now) st.args.p.width st.args.p.at) c.runs_over.ensures c.if-runs_over.true in
-    c.refused_at-then-runs_over.ensures ∙ said-refused st.args.p (at_value st.args.p.given (because Table.bits)) (later-over 64 st.args.s.now st.args.n st.args.p if1.false (omega (arith, whole-bytes.ensures, if2.false)) if3.false over)
+    let over = over_yes c.runs_over.result c.args.p.at (size_at 64 (number c.args.s.now) c.args.p.width c.args.p.at) c.runs_over.ensures c.if-runs_over.true in
+    c.refused_at-then-runs_over.ensures ∙ said-refused c.args.p (at_value c.args.p.given (because Table.bits)) (later-over 64 c.args.s.now c.args.n c.args.p if1.false (omega (arith, whole-bytes.ensures, if2.false)) if3.false over)
 
 pub entry_at-e-requires : goal.entry_at-e-requires
 entry_at-e-requires c =
     let if1 = c.if-w-gt64 in
-    let st = c in
-    let under = over_no c.runs_over.result st.args.p.at (size_at 64 (number st.args.s.now) st.args.p.width st.args.p.at) c.runs_over.ensures c.if-runs_over.false in
+    let under = over_no c.runs_over.result c.args.p.at (size_at 64 (number c.args.s.now) c.args.p.width c.args.p.at) c.runs_over.ensures c.if-runs_over.false in
     (if1.false, c.marker-m.ensures, under)
 
 pub returns-then-len-whole_bytes-2 : goal.returns-then-len-whole_bytes-2
@@ -53,10 +48,9 @@ returns-then-len-whole_bytes-2 c =
     let whole-bytes = c.whole_bytes in
     let if2 = c.if-len-whole_bytes in
     let if3 = c.if-n-p in
-    let st = c in
     let e = c.entry_at-e in
-    c.refused_at-then-len-whole_bytes-2.ensures ∙ said-refused st.args.p (at_value st.args.p.given (because Table.bits))
-    (later-short 64 st.args.s.now st.args.n st.args.p if1.false (omega (arith, whole-bytes.ensures, if2.false)) if3.false (omega (arith, e.ensures.1, c.whole_bytes-2.ensures, c.if-len-whole_bytes-2.true)))
+    c.refused_at-then-len-whole_bytes-2.ensures ∙ said-refused c.args.p (at_value c.args.p.given (because Table.bits))
+    (later-short 64 c.args.s.now c.args.n c.args.p if1.false (omega (arith, whole-bytes.ensures, if2.false)) if3.false (omega (arith, e.ensures.1, c.whole_bytes-2.ensures, c.if-len-whole_bytes-2.true)))
 
 pub returns : goal.returns
 returns c =
@@ -66,9 +60,8 @@ returns c =
     let if3 = c.if-n-p in
     let runs-over = c.runs_over in
     let if4 = c.if-runs_over in
-    let st = c in
     let e = c.entry_at-e in
-    let under = over_no runs-over.result st.args.p.at (size_at 64 (number st.args.s.now) st.args.p.width st.args.p.at) runs-over.ensures if4.false in
-    ap₂ (λ (v k : ℕ). Value v (position k (st.args.p.given + 1) st.args.p.width v)) e.ensures.0 e.ensures.1
-    ∙ said-value st.args.p _ _
-    (later-value 64 st.args.s.now st.args.n st.args.p if1.false (omega (arith, whole-bytes.ensures, if2.false)) if3.false (omega (arith, e.ensures.1, c.whole_bytes-2.ensures, c.if-len-whole_bytes-2.false)) under)
+    let under = over_no runs-over.result c.args.p.at (size_at 64 (number c.args.s.now) c.args.p.width c.args.p.at) runs-over.ensures if4.false in
+    ap₂ (λ (v k : ℕ). Value v (position k (c.args.p.given + 1) c.args.p.width v)) e.ensures.0 e.ensures.1
+    ∙ said-value c.args.p _ _
+    (later-value 64 c.args.s.now c.args.n c.args.p if1.false (omega (arith, whole-bytes.ensures, if2.false)) if3.false (omega (arith, e.ensures.1, c.whole_bytes-2.ensures, c.if-len-whole_bytes-2.false)) under)

@@ -8,10 +8,8 @@ returns-then-at-lt18446744073709551360 c = let a = c.args in over_none (number a
 
 pub returns-then-field-m : goal.returns-then-field-m
 returns-then-field-m c =
-    let st = c in
-    over-short (number st.args.s.now) st.args.w st.args.at c.field.result st.args.m st.ranges.at.fits c.field.ensures st.requires.1 c.if-field-m.true
+    over-short (number c.args.s.now) c.args.w c.args.at c.field.result c.args.m c.ranges.at.fits c.field.ensures c.requires.1 c.if-field-m.true
 
 pub returns-else-field-m : goal.returns-else-field-m
 returns-else-field-m c =
-    let st = c in
-    over-full (number st.args.s.now) st.args.w st.args.at c.field.result st.args.m st.ranges.at.fits c.field.ensures st.requires.1 c.if-field-m.false
+    over-full (number c.args.s.now) c.args.w c.args.at c.field.result c.args.m c.ranges.at.fits c.field.ensures c.requires.1 c.if-field-m.false
