@@ -9,27 +9,20 @@ use borrow.Author.Tests.{le-leb, lt-leb}
 use Rattle.answer.specs.Table as table
 use Rattle.answer.specs.Refusal.{because}
 use Rattle.answer.specs.declared.Refusal.{Refusal}
-use Rattle.answer.specs.declared.Verdict.TheVariants as verdict
 use Rattle.answer.specs.Outcome.{refused, ok}
-use Rattle.answer.specs.Rule.{judged}
 use Rattle.answer.proofs.Outcomes.{ok-inj, on-ok, met, unmet}
-use Rattle.answer.proofs.Rules.{judged-holds}
-use Rattle.answer.proofs.Orders.{on-refused, on_value, then-refused, then-holds}
+use Rattle.answer.proofs.Orders.{on-refused, on_value}
 use Rattle.pageblock.specs.Body.{Handed, page_bytes}
 use Rattle.pageblock.specs.Page.{page_rules, page_written, room_for, page_block_of}
-use Rattle.pageblock.proofs.Passing.{Passed, rules-passed}
 
 module _ (ed : ℕ) (i : Handed) where
-  pub page-refused : (w : Refusal) → judged (verdict.Refused w) ≡ page_rules i → page_written ed i ≡ refused w
+  pub page-refused : (w : Refusal) → page_rules i ≡ refused w → page_written ed i ≡ refused w
   unfolding page_written
-  page-refused w e = then-refused _ _ w e
+  page-refused w e = on-refused _ _ w e
 
-  pub page-ok : judged verdict.Holds ≡ page_rules i → page_written ed i ≡ ok (page_bytes ed i)
+  pub page-ok : page_rules i ≡ ok tt → page_written ed i ≡ ok (page_bytes ed i)
   unfolding page_written
-  page-ok e = then-holds _ _ e
-
-  pub page-passed : judged verdict.Holds ≡ page_rules i → Passed i
-  page-passed e = rules-passed i tt (sym e ∙ judged-holds)
+  page-ok e = on_value _ _ tt e
 
   -- where it is a value, that is the page's bytes, and the rules have passed
   pub page-ok-is : (bytes : List ℕ) → page_written ed i ≡ ok bytes → (bytes ≡ page_bytes ed i) × (page_rules i ≡ ok tt)
@@ -43,11 +36,11 @@ module _ (ed : ℕ) (i : Handed) where
   page-one b c e f = (page-ok-is b e).0 ∙ sym (page-ok-is c f).0
 
   module _ (room : ℕ) where
-    pub block_refused : (w : Refusal) → judged (verdict.Refused w) ≡ page_rules i → page_block_of ed room i ≡ refused w
+    pub block_refused : (w : Refusal) → page_rules i ≡ refused w → page_block_of ed room i ≡ refused w
     unfolding page_block_of
     block_refused w e = on-refused _ _ w (page-refused w e)
 
-    module _ (e : judged verdict.Holds ≡ page_rules i) where
+    module _ (e : page_rules i ≡ ok tt) where
       pub block_room : room < length (page_bytes ed i) → page_block_of ed room i ≡ refused (because table.room)
       unfolding page_block_of room_for
       block_room h = on_value _ _ (page_bytes ed i) (page-ok e) ∙ unmet (because table.room) _ (lt-leb (length (page_bytes ed i)) room h)

@@ -1,23 +1,17 @@
 -- The rules of a page that is handed in, one law for each way through, and what has passed where they let pass. Assumes nothing.
-use Prim.Native.Nat.{ℕ}
 use mathlib.Core.Path.{◌≡◌, sym, ◌∙◌}
 use mathlib.Core.Bool.{Bool, true, false, ◌&&◌}
-use mathlib.Core.List.{List}
 use lib.Dec.{eqb}
 use lib.ListN.{length}
 use borrow.Author.Tests.{eqb-true, eq-eqb, ne_eqb}
 use Rattle.answer.specs.Table as table
 use Rattle.answer.specs.Refusal.{because}
 use Rattle.answer.specs.declared.Refusal.{Refusal}
-use Rattle.answer.specs.declared.Verdict.{Verdict}
-use Rattle.answer.specs.declared.Verdict.TheVariants.{Holds, Refused}
-use Rattle.answer.specs.Outcome.{ok, on}
-use Rattle.answer.specs.Rule.{judged}
+use Rattle.answer.specs.Outcome.{ok, on, refused}
 use Rattle.answer.proofs.Outcomes.{on-ok}
-use Rattle.answer.proofs.Rules.{rule-holds, rule-fails, rule-ok, judged-holds, judged-refused}
+use Rattle.answer.proofs.Rules.{rule-holds, rule-fails, rule-ok}
 use Rattle.answer.proofs.Both.{both_l, both_r}
-use Rattle.types.specs.Parts.{parts_hold, parts_rule}
-use Rattle.types.proofs.Passed.{parts-passed}
+use Rattle.types.specs.Parts.{parts_rule}
 use Rattle.extent.specs.Rank.{all_finite}
 use Rattle.shape.specs.Rules.{finite_rule, outline_rules}
 use Rattle.frame.specs.Head.{counts_ok}
@@ -80,25 +74,20 @@ even-limits i e = counts-limits (length i.registers) (length i.xs) (length i.len
 -- ---- the rules in order
 
 module _ (i : Handed) where
-  pub rules-counts : counts_hold i ≡ false → judged (Refused (because table.counts)) ≡ page_rules i
+  pub rules-counts : counts_hold i ≡ false → refused (because table.counts) ≡ page_rules i
   unfolding page_rules counts_rule
-  rules-counts e = judged-refused (because table.counts) ∙ sym (on-refused _ _ (because table.counts) (rule-fails (counts_hold i) table.counts e))
+  rules-counts e = sym (on-refused _ _ (because table.counts) (rule-fails (counts_hold i) table.counts e))
 
   module _ (c : counts_hold i ≡ true) where
     rules-rest : page_rules i ≡ on (parts_rule i.types i.counts i.lens (length i.xs)) (λ (u : Unit {0}). outline_rules (outlines i) i.xs i.ys)
     unfolding page_rules counts_rule
     rules-rest = on_value _ _ tt (rule-holds (counts_hold i) table.counts c)
 
-    pub rules-parts : (w : Refusal) → judged (Refused w) ≡ parts_rule i.types i.counts i.lens (length i.xs) → judged (Refused w) ≡ page_rules i
-    rules-parts w e = judged-refused w ∙ sym (rules-rest ∙ then-refused _ _ w e)
+    pub rules-parts : (w : Refusal) → refused w ≡ parts_rule i.types i.counts i.lens (length i.xs) → refused w ≡ page_rules i
+    rules-parts w e = sym (rules-rest ∙ then-refused _ _ w e)
 
-    pub rules-outlines : (r : Verdict) → judged Holds ≡ parts_rule i.types i.counts i.lens (length i.xs) → judged r ≡ outline_rules (outlines i) i.xs i.ys
-        → judged r ≡ page_rules i
-    rules-outlines r p e = e ∙ sym (rules-rest ∙ then-holds _ _ p)
-
--- rule 11, by its verdict
-pub parts_held : (types counts lens : List ℕ) (v : ℕ) → judged Holds ≡ parts_rule types counts lens v → parts_hold types counts lens v ≡ true
-parts_held types counts lens v e = parts-passed types counts lens v tt (sym e ∙ judged-holds)
+    pub rules-outlines : ok tt ≡ parts_rule i.types i.counts i.lens (length i.xs) → outline_rules (outlines i) i.xs i.ys ≡ page_rules i
+    rules-outlines p = sym (rules-rest ∙ then-holds _ _ p)
 
 -- ---- what has passed
 

@@ -29,7 +29,7 @@ module _ (ed : ℕ) (i : Handed) where
   box = box_of i.xs i.ys
 
   abbrev tables : List ℕ
-  tables = table_bytes (each ed) i.registers i.types i.counts i.lens
+  tables = table_bytes (each ed) i
 
   abbrev columns : List ℕ
   columns = column_bytes i.xs i.ys
@@ -42,7 +42,7 @@ module _ (ed : ℕ) (i : Handed) where
 
   -- ---- the counts
 
-  pub at-counts : drop 0 (body_of ed i) ≡ count_bytes (length i.registers) (length i.xs) (length i.lens) ++ (box_bytes (box_of i.xs i.ys) ++ (table_bytes (each ed) i.registers i.types i.counts i.lens ++ column_bytes i.xs i.ys))
+  pub at-counts : drop 0 (body_of ed i) ≡ count_bytes (length i.registers) (length i.xs) (length i.lens) ++ (box_bytes (box_of i.xs i.ys) ++ (table_bytes (each ed) i ++ column_bytes i.xs i.ys))
   unfolding body_of
   at-counts = refl
 
@@ -116,7 +116,7 @@ module _ (ed : ℕ) (i : Handed) where
     -- ---- the columns
 
     at-columns : drop sizes (body_of ed i) ≡ columns
-    at-columns = behind (body_of ed i) tables _ 38 sizes at-tables (omega (arith, length-tables (each ed) i.registers i.types i.counts i.lens, es, el, ec, et))
+    at-columns = behind (body_of ed i) tables _ 38 sizes at-tables (omega (arith, length-tables (each ed) i, es, el, ec, et))
 
     pub at-cx : drop sizes (body_of ed i) ≡ bytes_of 4 (length (encode 64 i.xs)) ++ (bytes_of 4 (length (encode 64 i.ys)) ++ (encode 64 i.xs ++ encode 64 i.ys))
     unfolding column_bytes

@@ -5,10 +5,10 @@ use native.Mathlib.Omega.{arith}
 use lib.ListN.{length}
 use Rattle.frame.specs.Layout.{layout_of}
 use Rattle.pageblock.specs.declared.plan.Plan.{Plan}
-use Rattle.pageblock.specs.Body.{Handed, body_of}
+use Rattle.pageblock.specs.Body.{Handed, body_of, page_bytes}
 use Rattle.pageblock.specs.Ready.{Sized, Planned}
 use Rattle.pageblock.proofs.Passing.{Passed, passed-sound}
-use Rattle.pageblock.proofs.Sizes.{body-size, columns-few, column-most}
+use Rattle.pageblock.proofs.Sizes.{length-page, body-size, columns-few, column-most}
 
 -- a plan by its parts
 pub planned : (i : Handed) (ed : ℕ) (plan : Plan) → Passed i → plan.edition ≡ ed → plan.layout ≡ layout_of ed (length i.registers) (length i.lens)
@@ -24,9 +24,9 @@ planned i ed plan q e l x y n =
       whole = n ∙ body-size plan.edition i plan.layout k q.even plan.x.bytes plan.y.bytes x.size y.size;
     }
 
--- its length is the body's
-pub plan-whole : (i : Handed) (ed : ℕ) (plan : Plan) → Planned i plan → plan.edition ≡ ed → plan.len ≡ length (body_of ed i)
-plan-whole i ed plan n e = n.whole ∙ ap (λ (x : ℕ). length (body_of x i)) e
+-- its length is the body's, and so the block's is known
+pub plan-size : (i : Handed) (ed : ℕ) (plan : Plan) → Planned i plan → plan.edition ≡ ed → 6 + plan.len ≡ length (page_bytes ed i)
+plan-size i ed plan n e = omega (arith, length-page ed i, n.whole ∙ ap (λ (x : ℕ). length (body_of x i)) e)
 
 -- and that is small
 pub plan-few : (i : Handed) (plan : Plan) → Planned i plan → plan.len ≤ 39728

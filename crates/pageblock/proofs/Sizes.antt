@@ -42,18 +42,18 @@ length-box b =
       length-bytes_of 8 b.greatest_y,
     )
 
-pub length-tables : (k : ℕ) (registers types counts lens : List ℕ)
-    → length (table_bytes k registers types counts lens) ≡ k * length registers + length types + 2 * length counts + 2 * length lens
+pub length-tables : (k : ℕ) (i : Handed)
+    → length (table_bytes k i) ≡ k * length i.registers + length i.types + 2 * length i.counts + 2 * length i.lens
 unfolding table_bytes
-length-tables k registers types counts lens =
-    length-append (run_of k registers) (types ++ (run_of 2 counts ++ run_of 2 lens))
+length-tables k i =
+    length-append (run_of k i.registers) (i.types ++ (run_of 2 i.counts ++ run_of 2 i.lens))
     ∙ omega (
       arith,
-      length_run k registers,
-      length-append types (run_of 2 counts ++ run_of 2 lens),
-      length-append (run_of 2 counts) (run_of 2 lens),
-      length_run 2 counts,
-      length_run 2 lens,
+      length_run k i.registers,
+      length-append i.types (run_of 2 i.counts ++ run_of 2 i.lens),
+      length-append (run_of 2 i.counts) (run_of 2 i.lens),
+      length_run 2 i.counts,
+      length_run 2 i.lens,
     )
 
 pub length-columns : (xs ys : List ℕ) → length (column_bytes xs ys) ≡ 8 + length (encode 64 xs) + length (encode 64 ys)
@@ -77,7 +77,7 @@ unfolding body_of
 length-body ed i =
     let c = count_bytes (length i.registers) (length i.xs) (length i.lens) in
     let b = box_bytes (box_of i.xs i.ys) in
-    let t = table_bytes (each ed) i.registers i.types i.counts i.lens in
+    let t = table_bytes (each ed) i in
     let k = column_bytes i.xs i.ys in
     length-append c (b ++ (t ++ k))
     ∙ omega (
@@ -86,7 +86,7 @@ length-body ed i =
       length-append b (t ++ k),
       length-box (box_of i.xs i.ys),
       length-append t k,
-      length-tables (each ed) i.registers i.types i.counts i.lens,
+      length-tables (each ed) i,
       length-columns i.xs i.ys,
     )
 
@@ -104,7 +104,7 @@ module _ (ed : ℕ) (i : Handed) (l : Layout) (e : l ≡ layout_of ed (length i.
   each_of = rw e
 
   -- one behind the other
-  pub laid : Even i → Laid l i.registers i.types i.counts i.lens
+  pub laid : Even i → Laid l i
   unfolding layout_of each
   laid v = record {
     one = rw e;
@@ -116,7 +116,7 @@ module _ (ed : ℕ) (i : Handed) (l : Layout) (e : l ≡ layout_of ed (length i.
 
   module _ (v : Even i) where
     -- the byte lengths behind the tables
-    pub sizes_at : l.sizes ≡ 38 + length (table_bytes (each ed) i.registers i.types i.counts i.lens)
+    pub sizes_at : l.sizes ≡ 38 + length (table_bytes (each ed) i)
     sizes_at =
         let g = length i.registers in
         let p = length i.lens in
@@ -125,7 +125,7 @@ module _ (ed : ℕ) (i : Handed) (l : Layout) (e : l ≡ layout_of ed (length i.
           ap (λ (x : Layout). x.sizes) e,
           columns-at ed g p,
           columns-are ed g p,
-          length-tables (each ed) i.registers i.types i.counts i.lens,
+          length-tables (each ed) i,
           v.types_even,
           v.counts_even,
         )
@@ -137,7 +137,7 @@ module _ (ed : ℕ) (i : Handed) (l : Layout) (e : l ≡ layout_of ed (length i.
         omega (
           arith,
           sizes_at,
-          length-tables (each ed) i.registers i.types i.counts i.lens,
+          length-tables (each ed) i,
           registers-le ed (length i.registers) m.few,
           v.types_even,
           v.counts_even,

@@ -55,14 +55,14 @@ box-put b d d₁ d₂ d₃ d₄ at e₁ e₂ e₃ e₄ =
     (number-store 8 b.greatest_x (bytes_of 8 b.greatest_y) d₂ d₃ d₄ (at + 16) (at + 24) e₃ (omega arith) e₄))
 
 -- the four tables
-pub tables-put : (k : ℕ) (registers types counts lens d d₁ d₂ d₃ d₄ : List ℕ) (at t c l : ℕ) → t ≡ at + k * length registers → c ≡ t + length types → l ≡ c + 2 * length counts
-    → d₁ ≡ sets d at (run_of k registers) → d₂ ≡ sets d₁ t types → d₃ ≡ sets d₂ c (run_of 2 counts) → d₄ ≡ sets d₃ l (run_of 2 lens)
-    → d₄ ≡ sets d at (table_bytes k registers types counts lens)
+pub tables-put : (k : ℕ) (i : Handed) (d d₁ d₂ d₃ d₄ : List ℕ) (at t c l : ℕ) → t ≡ at + k * length i.registers → c ≡ t + length i.types → l ≡ c + 2 * length i.counts
+    → d₁ ≡ sets d at (run_of k i.registers) → d₂ ≡ sets d₁ t i.types → d₃ ≡ sets d₂ c (run_of 2 i.counts) → d₄ ≡ sets d₃ l (run_of 2 i.lens)
+    → d₄ ≡ sets d at (table_bytes k i)
 unfolding table_bytes
-tables-put k registers types counts lens d d₁ d₂ d₃ d₄ at t c l et ec el e₁ e₂ e₃ e₄ =
-    run_store k registers _ d d₁ d₄ at t e₁ et
-    (store types _ d₁ d₂ d₄ t c e₂ ec
-    (run_store 2 counts (run_of 2 lens) d₂ d₃ d₄ c l e₃ el e₄))
+tables-put k i d d₁ d₂ d₃ d₄ at t c l et ec el e₁ e₂ e₃ e₄ =
+    run_store k i.registers _ d d₁ d₄ at t e₁ et
+    (store i.types _ d₁ d₂ d₄ t c e₂ ec
+    (run_store 2 i.counts (run_of 2 i.lens) d₂ d₃ d₄ c l e₃ el e₄))
 
 -- a part that is put is a store
 pub part-put : (d e bytes : List ℕ) (at end : ℕ) → end ≡ at + length bytes → end ≤ length d → e ≡ bytes → put_mid at (end - at) d e ≡ sets d at bytes
@@ -91,18 +91,18 @@ column-part d vs at n w h e f =
 
 -- the head of the block, the counts, the box, the tables and the columns; the tables stand at t, and the columns' byte lengths at k
 pub page-put : (ed : ℕ) (i : Handed) (d d₁ d₂ d₃ d₄ d₅ : List ℕ) (len each' t k : ℕ) (b : Bounds) → len ≡ length (body_of ed i) → each' ≡ each ed → t ≡ head_bytes + first_bytes
-    → k ≡ t + length (table_bytes (each ed) i.registers i.types i.counts i.lens) → d₁ ≡ sets d 0 (block_head len kinds.page)
+    → k ≡ t + length (table_bytes (each ed) i) → d₁ ≡ sets d 0 (block_head len kinds.page)
     → d₂ ≡ sets d₁ head_bytes (count_bytes (length i.registers) (length i.xs) (length i.lens))
     → b ≡ box_of i.xs i.ys → d₃ ≡ sets d₂ (head_bytes + bounds_place) (box_bytes b)
-    → d₄ ≡ sets d₃ t (table_bytes each' i.registers i.types i.counts i.lens) → d₅ ≡ sets d₄ k (column_bytes i.xs i.ys) → d₅ ≡ sets d 0 (page_bytes ed i)
+    → d₄ ≡ sets d₃ t (table_bytes each' i) → d₅ ≡ sets d₄ k (column_bytes i.xs i.ys) → d₅ ≡ sets d 0 (page_bytes ed i)
 unfolding page_bytes block_of body_of
 page-put ed i d d₁ d₂ d₃ d₄ d₅ len each' t k b el ee et ek e₁ e₂ eb e₃ e₄ e₅ =
     let c = count_bytes (length i.registers) (length i.xs) (length i.lens) in
     let x = box_bytes (box_of i.xs i.ys) in
-    let s = table_bytes (each ed) i.registers i.types i.counts i.lens in
+    let s = table_bytes (each ed) i in
     let z = column_bytes i.xs i.ys in
     let n = length (body_of ed i) in
     store (block_head n kinds.page) (body_of ed i) d d₁ d₅ 0 6 (e₁ ∙ ap (λ (m : ℕ). sets d 0 (block_head m kinds.page)) el) (omega (arith, length-head n kinds.page))
     (store c (x ++ (s ++ z)) d₁ d₂ d₅ 6 12 e₂ (omega (arith, length-counts (length i.registers) (length i.xs) (length i.lens)))
     (store x (s ++ z) d₂ d₃ d₅ 12 t (e₃ ∙ ap (λ (q : Bounds). sets d₂ 12 (box_bytes q)) eb) (omega (arith, et, length-box (box_of i.xs i.ys)))
-    (store s z d₃ d₄ d₅ t k (e₄ ∙ ap (λ (m : ℕ). sets d₃ t (table_bytes m i.registers i.types i.counts i.lens)) ee) ek e₅)))
+    (store s z d₃ d₄ d₅ t k (e₄ ∙ ap (λ (m : ℕ). sets d₃ t (table_bytes m i)) ee) ek e₅)))

@@ -2,8 +2,6 @@
 -- numbers (u32); g types (u8); g part counts (u16); p part lengths (u16); byte lengths cx, cy (u32 each); the x column; the y column". Assumes
 -- nothing.
 use Rattle.std.specs.Prelude.{ℕ, List, ◌++◌, length}
-use Rattle.std.specs.Borrow.{Bor}
-use Rattle.answer.specs.Lent.{Lent, came}
 use Rattle.le.specs.Number.{bytes_of, run_of}
 use Rattle.column.specs.Column.{encode}
 use Rattle.extent.specs.declared.bounds.Bounds.{Bounds}
@@ -11,6 +9,7 @@ use Rattle.extent.specs.Boxes.{box_of}
 use Rattle.block.specs.Kinds as kinds
 use Rattle.frame.specs.Layout.{each}
 use Rattle.frame.specs.Whole.{block_of}
+use Rattle.pageblock.specs.declared.lists.PageLists.{PageLists}
 
 -- what a page call is handed: the shapes' registers, types and part counts, the parts' lengths, and the patterns of the vertices
 pub record Handed : Type 0 where
@@ -25,13 +24,9 @@ pub record Handed : Type 0 where
 abbrev pub handed_with : List ℕ → List ℕ → List ℕ → List ℕ → List ℕ → List ℕ → Handed
 handed_with registers types counts lens xs ys = record { registers = registers; types = types; counts = counts; lens = lens; xs = xs; ys = ys }
 
--- the same, by the six slices
-abbrev pub handed_in : Bor (List ℕ) → Bor (List ℕ) → Bor (List ℕ) → Bor (List ℕ) → Bor (List ℕ) → Bor (List ℕ) → Handed
-handed_in registers types counts lens xs ys = handed_with registers.now types.now counts.now lens.now xs.now ys.now
-
--- the same, by the six as a call was lent them
-abbrev pub handed : Lent → Lent → Lent → Lent → Lent → Lent → Handed
-handed registers types counts lens xs ys = handed_with (came registers) (came types) (came counts) (came lens) (came xs) (came ys)
+-- the same, by the six slices of a call
+abbrev pub handed_of : PageLists → Handed
+handed_of l = handed_with l.registers.now l.types.now l.counts.now l.lens.now l.xs.now l.ys.now
 
 -- how many shapes, vertices and parts, two bytes each
 unfoldable pub count_bytes : ℕ → ℕ → ℕ → List ℕ
@@ -42,8 +37,8 @@ unfoldable pub box_bytes : Bounds → List ℕ
 box_bytes b = bytes_of 8 b.least_x ++ (bytes_of 8 b.least_y ++ (bytes_of 8 b.greatest_x ++ bytes_of 8 b.greatest_y))
 
 -- the registers, so many bytes each, the types, the part counts, the part lengths
-unfoldable pub table_bytes : ℕ → List ℕ → List ℕ → List ℕ → List ℕ → List ℕ
-table_bytes each registers types counts lens = run_of each registers ++ (types ++ (run_of 2 counts ++ run_of 2 lens))
+unfoldable pub table_bytes : ℕ → Handed → List ℕ
+table_bytes each i = run_of each i.registers ++ (i.types ++ (run_of 2 i.counts ++ run_of 2 i.lens))
 
 -- the byte lengths of the two columns, the x column, the y column
 unfoldable pub column_bytes : List ℕ → List ℕ → List ℕ
@@ -54,7 +49,7 @@ unfoldable pub body_of : ℕ → Handed → List ℕ
 body_of edition i =
     count_bytes (length i.registers) (length i.xs) (length i.lens)
     ++ (box_bytes (box_of i.xs i.ys)
-    ++ (table_bytes (each edition) i.registers i.types i.counts i.lens
+    ++ (table_bytes (each edition) i
     ++ column_bytes i.xs i.ys))
 
 -- the block of a page

@@ -27,12 +27,12 @@ pub record FiniteVertices (xs ys : List ℕ) : Type 0 where
   pub finite_y : all_finite ys ≡ true
 
 -- the tables stand one behind the other, a register taking its number's four bytes
-pub record Laid (l : Layout) (registers types counts lens : List ℕ) : Type 0 where
+pub record Laid (l : Layout) (i : Handed) : Type 0 where
   pub one : l.each ≡ 4
-  pub types_at : l.types ≡ l.registers + 4 * length registers
-  pub counts_at : l.counts ≡ l.types + length types
-  pub lens_at : l.lens ≡ l.counts + 2 * length counts
-  pub sizes_at : l.sizes ≡ l.lens + 2 * length lens
+  pub types_at : l.types ≡ l.registers + 4 * length i.registers
+  pub counts_at : l.counts ≡ l.types + length i.types
+  pub lens_at : l.lens ≡ l.counts + 2 * length i.counts
+  pub sizes_at : l.sizes ≡ l.lens + 2 * length i.lens
 
 -- the width and the size of the column of vs
 pub record Sized (vs : List ℕ) (f : Fitted) : Type 0 where

@@ -1,18 +1,18 @@
 // The parts of a page's body, put where its layout says; what stands elsewhere stays.
 ghost use Rattle.std.specs.Prelude.{◌≡◌, ◌+◌, ◌≤◌, length};
 ghost use Rattle.std.proofs.lemmas.List.Edits.{sets};
-ghost use Rattle.answer.specs.Lent.{came};
 ghost use Rattle.answer.specs.Limits.{vertex_limit};
 ghost use Rattle.column.specs.Column.{encode};
 ghost use Rattle.frame.specs.Layout.{bounds_place};
-ghost use Rattle.pageblock.specs.Body.{count_bytes, box_bytes, table_bytes, column_bytes};
+ghost use Rattle.pageblock.specs.Body.{handed_of, count_bytes, box_bytes, table_bytes, column_bytes};
 ghost use Rattle.pageblock.specs.Ready.{FiniteVertices, Sized, Laid};
 
+use crate::lists::PageLists;
 use column::write::Fitted;
 use extent::bounds::Bounds;
 use frame::layout::{Layout, PARTS, SECOND_SIZE, SHAPES, VERTICES};
 use le::number::{put_u16, put_u32, put_u64};
-use le::run::{put_bytes, put_u16s, put_u32s};
+use le::run::{put_bytes, put_run};
 
 // How many shapes, vertices and parts, of the body that begins at a place.
 pub(crate) fn put_counts(d: &mut [u8], body: usize, g: usize, v: usize, p: usize)
@@ -36,22 +36,14 @@ pub(crate) fn put_bounds(d: &mut [u8], at: usize, b: Bounds)
 }
 
 // The registers, the types, the part counts and the part lengths, of the body that begins at a place.
-pub(crate) fn put_tables(
-    d: &mut [u8],
-    body: usize,
-    l: Layout,
-    registers: &[u32],
-    types: &[u8],
-    counts: &[u16],
-    lens: &[u16],
-)
-    requires { Laid l registers.now types.now counts.now lens.now × (body + l.sizes ≤ length d.old) }
-    ensures { d.new ≡ sets d.old (body + l.registers) (table_bytes l.each (came registers) (came types) (came counts) (came lens)) }
+pub(crate) fn put_tables(d: &mut [u8], body: usize, l: Layout, lists: PageLists)
+    requires { Laid l (handed_of lists) × (body + l.sizes ≤ length d.old) }
+    ensures { d.new ≡ sets d.old (body + l.registers) (table_bytes l.each (handed_of lists.entry)) }
 {
-    put_u32s(d, body + l.registers, registers);
-    put_bytes(d, body + l.types, types);
-    put_u16s(d, body + l.counts, counts);
-    put_u16s(d, body + l.lens, lens);
+    put_run(d, body + l.registers, lists.registers);
+    put_bytes(d, body + l.types, lists.types);
+    put_run(d, body + l.counts, lists.counts);
+    put_run(d, body + l.lens, lists.lens);
 }
 
 // A column, put straight into the part that is to hold it.

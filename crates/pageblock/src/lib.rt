@@ -2,6 +2,7 @@
 #![tactic(auto)]
 
 mod body;
+pub mod lists;
 pub mod page_block;
 mod plan;
 mod rules;

@@ -4,6 +4,7 @@ ghost use Rattle.answer.specs.Limits.{vertex_limit, most_page_shapes};
 ghost use Rattle.frame.specs.Layout.{layout_of};
 ghost use Rattle.pageblock.specs.Ready.{Sized};
 
+use crate::lists::PageLists;
 use column::write::{Fitted, fit};
 use frame::layout::{Layout, layout_of};
 
@@ -17,17 +18,17 @@ pub(crate) struct Plan {
     pub len: usize,
 }
 
-// The plan of a page with g shapes and p parts.
-pub(crate) fn plan_of(edition: usize, g: usize, p: usize, xs: &[u64], ys: &[u64]) -> Plan
-    requires { (g ≤ most_page_shapes) × (p ≤ vertex_limit) × (length xs.now ≤ vertex_limit) × (length ys.now ≤ vertex_limit) }
+// The plan of a page of these lists.
+pub(crate) fn plan_of(edition: usize, lists: PageLists) -> Plan
+    requires { (length lists.registers.now ≤ most_page_shapes) × (length lists.lens.now ≤ vertex_limit) × (length lists.xs.now ≤ vertex_limit) × (length lists.ys.now ≤ vertex_limit) }
     ensures edition { result.edition ≡ edition }
-    ensures layout { result.layout ≡ layout_of edition g p }
-    ensures columns { Sized xs.now result.x × Sized ys.now result.y }
+    ensures layout { result.layout ≡ layout_of edition (length lists.entry.registers.now) (length lists.entry.lens.now) }
+    ensures columns { Sized lists.entry.xs.now result.x × Sized lists.entry.ys.now result.y }
     ensures whole { result.len ≡ result.layout.columns + result.x.bytes + result.y.bytes }
 {
-    let layout = layout_of(edition, g, p);
-    let x = fit(xs);
-    let y = fit(ys);
+    let layout = layout_of(edition, lists.registers.len(), lists.lens.len());
+    let x = fit(lists.xs);
+    let y = fit(lists.ys);
     let len = layout.columns + x.bytes + y.bytes;
     Plan {
         edition,

@@ -1,54 +1,46 @@
 // The rules of a page that is handed in, in order. They are the checker's own.
 ghost use Rattle.std.specs.Prelude.{◌≡◌};
-ghost use Rattle.answer.specs.Rule.{judged};
-ghost use Rattle.pageblock.specs.Body.{handed};
+ghost use Rattle.pageblock.specs.Body.{handed_of};
 ghost use Rattle.pageblock.specs.Page.{counts_hold, page_rules};
 
+use crate::lists::PageLists;
+use answer::Refusal;
 use answer::table::COUNTS;
-use answer::{Refusal, Verdict};
 use frame::head::counts_ok;
+use shape::lists::Lists;
 use shape::ordered::outline_rules;
 use types::parts::parts_rule;
 
 // Whether there is a type and a part count for each register, and a y for each x, and the counts are within the limits.
-fn counts_hold(
-    registers: &[u32],
-    types: &[u8],
-    counts: &[u16],
-    lens: &[u16],
-    xs: &[u64],
-    ys: &[u64],
-) -> bool
-    ensures { result ≡ counts_hold (handed registers types counts lens xs ys) }
+fn counts_hold(lists: PageLists) -> bool
+    ensures { result ≡ counts_hold (handed_of lists.entry) }
 {
-    if types.len() != registers.len() {
+    if lists.types.len() != lists.registers.len() {
         return false;
     }
-    if counts.len() != registers.len() {
+    if lists.counts.len() != lists.registers.len() {
         return false;
     }
-    if ys.len() != xs.len() {
+    if lists.ys.len() != lists.xs.len() {
         return false;
     }
-    counts_ok(registers.len(), xs.len(), lens.len())
+    counts_ok(lists.registers.len(), lists.xs.len(), lists.lens.len())
 }
 
 // 6, 11, 12, 13, 14, 15, for any lists.
-pub fn page_rules(
-    registers: &[u32],
-    types: &[u8],
-    counts: &[u16],
-    lens: &[u16],
-    xs: &[u64],
-    ys: &[u64],
-) -> Verdict
-    ensures { judged result ≡ page_rules (handed registers types counts lens xs ys) }
+pub fn page_rules(lists: PageLists) -> Result<(), Refusal>
+    ensures { result ≡ page_rules (handed_of lists.entry) }
 {
-    if !counts_hold(registers, types, counts, lens, xs, ys) {
-        return Verdict::Refused(Refusal::because(COUNTS));
+    if !counts_hold(lists) {
+        return Err(Refusal::because(COUNTS));
     }
-    if let Verdict::Refused(w) = parts_rule(types, counts, lens, xs.len()) {
-        return Verdict::Refused(w);
-    }
-    outline_rules(types, counts, lens, xs, ys)
+    parts_rule(lists.types, lists.counts, lists.lens, lists.xs.len())?;
+    let parted = Lists {
+        types: lists.types,
+        counts: lists.counts,
+        lens: lists.lens,
+        xs: lists.xs,
+        ys: lists.ys,
+    };
+    outline_rules(parted)
 }

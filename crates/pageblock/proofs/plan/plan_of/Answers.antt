@@ -1,38 +1,32 @@
 -- `pageblock::plan::plan_of` lays the parts out and measures the columns: all of it is small. Assumes nothing.
+use Prim.Native.Nat.{◌+◌, ◌≤◌}
 use mathlib.Core.Path.{refl, ap}
 use native.Mathlib.Omega.{arith}
 use Rattle.frame.specs.declared.layout.Layout.{Layout}
 use Rattle.frame.proofs.Layouts.{columns-le}
 use Rattle.pageblock.proofs.Sizes.{sized, column-most}
+use Rattle.pageblock.proofs.plan.plan_of.Goals.{After-fit-y}
 use Rattle.pageblock.proofs.plan.plan_of.Goals as goal
 
-pub overflow_add-len : goal.overflow_add-len
-overflow_add-len c =
-    let a = c.args in
+-- the columns' place and their sizes are small
+few : (c : After-fit-y) → c.layout_of-layout.result.columns + c.fit-x.result.bytes + c.fit-y.result.bytes ≤ 40000
+few c =
     let q = c.requires in
     omega (
       arith,
       ap (λ (l : Layout). l.columns) c.layout_of-layout.ensures,
-      columns-le a.edition a.g a.p q.0 q.1,
-      column-most a.xs.now q.2,
-      column-most a.ys.now q.3,
+      columns-le c.args.edition _ _ q.0 q.1,
+      column-most _ q.2,
+      column-most _ q.3,
       c.fit-x.ensures.1,
       c.fit-y.ensures.1,
     )
 
+pub overflow_add-len : goal.overflow_add-len
+overflow_add-len c = omega (arith, few (goal.at.overflow_add-len c).After-fit-y)
+
 pub overflow_add-len-2 : goal.overflow_add-len-2
-overflow_add-len-2 c =
-    let a = c.args in
-    let q = c.requires in
-    omega (
-      arith,
-      ap (λ (l : Layout). l.columns) c.layout_of-layout.ensures,
-      columns-le a.edition a.g a.p q.0 q.1,
-      column-most a.xs.now q.2,
-      column-most a.ys.now q.3,
-      c.fit-x.ensures.1,
-      c.fit-y.ensures.1,
-    )
+overflow_add-len-2 c = omega (arith, few (goal.at.overflow_add-len-2 c).After-fit-y)
 
 pub returns : goal.returns
 returns c =

@@ -1,24 +1,15 @@
 -- `pageblock::rules::counts_hold` tests the slices' lengths one after the other, then the limits: a law for each return. Assumes nothing.
-use Rattle.pageblock.specs.Body.{handed_with}
 use Rattle.pageblock.proofs.Passing.{types-uneven, counts-uneven, vertices-uneven, all-even}
 use Rattle.pageblock.proofs.rules.counts_hold.Goals as goal
 
-pub returns-then-types-registers : goal.returns-then-types-registers
-returns-then-types-registers c =
-    let a = c.args in
-    types-uneven (handed_with a.registers.now a.types.now a.counts.now a.lens.now a.xs.now a.ys.now) c.if-types-registers.true
+pub returns-then-lists : goal.returns-then-lists
+returns-then-lists c = types-uneven _ c.if-lists.true
 
-pub returns-then-counts-registers : goal.returns-then-counts-registers
-returns-then-counts-registers c =
-    let a = c.args in
-    counts-uneven (handed_with a.registers.now a.types.now a.counts.now a.lens.now a.xs.now a.ys.now) c.if-types-registers.false c.if-counts-registers.true
+pub returns-then-lists-2 : goal.returns-then-lists-2
+returns-then-lists-2 c = counts-uneven _ c.if-lists.false c.if-lists-2.true
 
-pub returns-then-ys-xs : goal.returns-then-ys-xs
-returns-then-ys-xs c =
-    let a = c.args in
-    vertices-uneven (handed_with a.registers.now a.types.now a.counts.now a.lens.now a.xs.now a.ys.now) c.if-types-registers.false c.if-counts-registers.false c.if-ys-xs.true
+pub returns-then-lists-3 : goal.returns-then-lists-3
+returns-then-lists-3 c = vertices-uneven _ c.if-lists.false c.if-lists-2.false c.if-lists-3.true
 
 pub returns : goal.returns
-returns c =
-    let a = c.args in
-    all-even (handed_with a.registers.now a.types.now a.counts.now a.lens.now a.xs.now a.ys.now) c.if-types-registers.false c.if-counts-registers.false _ c.if-ys-xs.false c.counts_ok.ensures
+returns c = all-even _ c.if-lists.false c.if-lists-2.false _ c.if-lists-3.false c.counts_ok.ensures
