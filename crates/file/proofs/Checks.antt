@@ -3,17 +3,14 @@ use Prim.Native.Nat.{ℕ}
 use mathlib.Core.Path.{◌≡◌, sym, ap, ◌∙◌}
 use mathlib.Core.List.{List}
 use Rattle.answer.specs.Outcome.{refused, ok}
-use Rattle.answer.specs.Rule.{judged, passed}
+use Rattle.answer.specs.Rule.{passed}
 use Rattle.answer.specs.declared.Refusal.{Refusal}
-use Rattle.answer.specs.declared.Verdict.TheVariants as verdict
 use Rattle.answer.proofs.Outcomes.{ok-inj, on-ok}
 use Rattle.answer.proofs.Rules.{holds-passed, refused-passed}
 use Rattle.frame.specs.declared.cursor.Cursor.{Cursor}
 use Rattle.frame.specs.declared.walk.Totals.{Totals}
 use Rattle.frame.specs.Frame.{Frame, frame_of, totals_of}
 use Rattle.frame.specs.Ahead.{Begun}
-use Rattle.frame.specs.Said.{said_checked}
-use Rattle.frame.specs.declared.walk.Checked.TheVariants.{Sound, Refused}
 use Rattle.shape.specs.Outline.{Shape}
 use Rattle.answer.proofs.Orders.{on-refused, on_value}
 use Rattle.file.specs.File.{pages_of, rest_of, shapes_in}
@@ -35,22 +32,22 @@ shapes-after s c b =
 -- ---- the check's answers
 
 -- the frame is refused
-pub check-frame : (s : List ℕ) (w : Refusal) → frame_of s ≡ refused w → said_checked (Refused w) ≡ check_of s
-unfolding check_of said_checked
+pub check-frame : (s : List ℕ) (w : Refusal) → frame_of s ≡ refused w → refused w ≡ check_of s
+unfolding check_of
 check-frame s w e = sym (on-refused (frame_of s) _ w e)
 
 module _ (s : List ℕ) (f : Frame) (t : Totals) (e : frame_of s ≡ ok f) (q : totals_of f ≡ t) where
   -- a page's contents are refused
-  pub check-contents : (w : Refusal) → judged (verdict.Refused w) ≡ passed (shapes_in s) → said_checked (Refused w) ≡ check_of s
-  unfolding check_of said_checked
+  pub check-contents : (w : Refusal) → refused w ≡ passed (shapes_in s) → refused w ≡ check_of s
+  unfolding check_of
   check-contents w j =
       sym
       (on_value (frame_of s) _ f e
       ∙ on-refused (pages_of 0 f.pages) _ w (sym (shapes_are s f e) ∙ refused-passed (shapes_in s) w j))
 
   -- all is sound
-  pub check_sound : judged verdict.Holds ≡ passed (shapes_in s) → said_checked (Sound t) ≡ check_of s
-  unfolding check_of said_checked
+  pub check_sound : (ok tt) ≡ passed (shapes_in s) → (ok t) ≡ check_of s
+  unfolding check_of
   check_sound j =
       let h = holds-passed (shapes_in s) j in
       sym

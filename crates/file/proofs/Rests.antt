@@ -4,9 +4,8 @@ use mathlib.Core.Path.{◌≡◌, sym, ap, ◌∙◌}
 use mathlib.Core.List.{List, [], ◌∷◌, ◌++◌}
 use native.Mathlib.Numerals.{add-one}
 use Rattle.answer.specs.Outcome.{refused, ok, on, in_page, marked}
-use Rattle.answer.specs.Rule.{judged, passed}
+use Rattle.answer.specs.Rule.{passed}
 use Rattle.answer.specs.declared.Refusal.{Refusal}
-use Rattle.answer.specs.declared.Verdict.TheVariants.{Holds, Refused}
 use Rattle.answer.proofs.Rules.{passed_ok, passed-refused, passed_on}
 use Rattle.frame.specs.declared.cursor.Cursor.{Cursor}
 use Rattle.frame.specs.declared.cursor.PageAt.{PageAt}
@@ -45,13 +44,13 @@ module _ (s : List ℕ) (c : Cursor) (ps : List Page) (a : Ahead s c ps) where
   rest-is = on_value (walk (1025 - c.pages) s c) _ ps a.walked
 
   -- at the end nothing
-  pub rest_end : next_of s c ≡ ok end → judged Holds ≡ passed (rest_of s c)
+  pub rest_end : next_of s c ≡ ok end → (ok tt) ≡ passed (rest_of s c)
   unfolding pages_of
   rest_end e = passed_ok [] (rest-is ∙ ap (pages_of c.pages) (ahead-end s c ps a e))
 
   module _ (p : PageAt) (e : next_of s c ≡ ok (page p)) where
     -- a page that is refused
-    pub rest-refused : (w : Refusal) → contents_in s c.pages p ≡ refused w → judged (Refused w) ≡ passed (rest_of s c)
+    pub rest-refused : (w : Refusal) → contents_in s c.pages p ≡ refused w → refused w ≡ passed (rest_of s c)
     rest-refused w r =
         let k = ahead-page s c ps a p e in
         passed-refused w (rest-is ∙ ap (pages_of c.pages) k.1 ∙ pages-refused c.pages (page_of s p) k.0 w r)
@@ -75,11 +74,11 @@ pub record Going (s : List ℕ) (from c : Cursor) : Type 0 where
 
 module _ (s : List ℕ) (from c : Cursor) (g : Going s from c) where
   -- the end
-  pub going_end : next_of s c ≡ ok end → judged Holds ≡ passed (rest_of s from)
+  pub going_end : next_of s c ≡ ok end → (ok tt) ≡ passed (rest_of s from)
   going_end e = rest_end s c g.ahead.0 g.ahead.1 e ∙ sym g.same
 
   module _ (p : PageAt) (e : next_of s c ≡ ok (page p)) where
-    pub going-refused : (w : Refusal) → contents_in s c.pages p ≡ refused w → judged (Refused w) ≡ passed (rest_of s from)
+    pub going-refused : (w : Refusal) → contents_in s c.pages p ≡ refused w → refused w ≡ passed (rest_of s from)
     going-refused w r = rest-refused s c g.ahead.0 g.ahead.1 p e w r ∙ sym g.same
 
     pub going_on : (here : List Shape) → contents_of p.head (part s p.body p.len) ≡ ok here → Going s from p.next

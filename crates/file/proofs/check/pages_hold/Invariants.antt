@@ -1,12 +1,10 @@
 -- `file::check::pages_hold` opens page after page: what is left decides as the whole does. Assumes nothing.
-use mathlib.Core.Path.{◌≡◌}
 use Prim.Native.Nat.{◌-◌}
-use lib.ListN.{length}
 use Rattle.file.proofs.Rests.{Going}
 use Rattle.file.proofs.check.pages_hold.Given as goal
 
 abbrev pub invariant-loop-c : goal.invariant-loop-c
-invariant-loop-c l = Going l.s l.initial.c l.c × (length l.counts ≡ length l.initial.counts) × (length l.lens ≡ length l.initial.lens) × (length l.xs ≡ length l.initial.xs) × (length l.ys ≡ length l.initial.ys)
+invariant-loop-c l = Going l.s l.initial.c l.c
 
 abbrev pub decreases-loop-c : goal.decreases-loop-c
 decreases-loop-c l = 1025 - l.c.pages
