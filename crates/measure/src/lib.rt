@@ -11,28 +11,30 @@ ghost use Rattle.step.specs.Run.{run_from};
 ghost use Rattle.measure.specs.Scratch.{scratch_left};
 ghost use Rattle.measure.specs.Sum.{sum_of};
 
-use answer::Filled;
+use answer::Refusal;
 use answer::limits::MOST_VERTICES;
 use column::Position;
 use step::Answer;
 
 // 0, or the refusal's number.
-fn number_of(f: Filled) -> u64
+#[tactic(auto, unfolding(crate::specs::Answers::number_of))]
+fn number_of(f: Result<usize, Refusal>) -> u64
     ensures { result ≡ number_of f }
 {
     match f {
-        Filled::Start(_) => 0,
-        Filled::Refused(w) => le::number::wide(w.number),
+        Ok(_) => 0,
+        Err(w) => le::number::wide(w.number),
     }
 }
 
 // How many elements were put in the room, or 2^32 times the refusal's number.
-fn count_of(f: Filled) -> u64
+#[tactic(auto, unfolding(crate::specs::Answers::filled_count))]
+fn count_of(f: Result<usize, Refusal>) -> u64
     ensures { result ≡ filled_count f }
 {
     match f {
-        Filled::Start(k) => k as u64,
-        Filled::Refused(w) => le::number::wide(w.number) * 0x1_0000_0000,
+        Ok(k) => k as u64,
+        Err(w) => le::number::wide(w.number) * 0x1_0000_0000,
     }
 }
 
@@ -84,12 +86,11 @@ pub extern "C" fn measure_steps(s: &[u8], n: usize) -> u64
         last: 0,
     };
     let mut sum: u64 = 0;
-    let mut left = n + 1;
-    while 0 < left {
+    for _ in 0..=n {
         let a = step::step(s, n, p);
         match a {
             Answer::Value(v, q) => {
-                sum = std::num::wrapping_add_u64(sum, v);
+                sum = sum.wrapping_add(v);
                 p = q;
             }
             Answer::End(_) => {
@@ -99,7 +100,6 @@ pub extern "C" fn measure_steps(s: &[u8], n: usize) -> u64
                 return sum;
             }
         }
-        left -= 1;
     }
     sum
 }
