@@ -7,7 +7,7 @@ use native.Mathlib.Omega.{arith}
 use lib.ListN.{length, length-append}
 use lib.Pow.{pow_mono}
 use Rattle.answer.specs.declared.Refusal.{Refusal}
-use Rattle.answer.specs.Outcome.{Out, ok, on}
+use Rattle.answer.specs.Outcome.{Out, ok, on, refused}
 use Rattle.le.specs.Number.{number}
 use Rattle.query.specs.declared.ask.Ask.{Ask}
 use Rattle.frame.specs.declared.cursor.Cursor.{Cursor}
@@ -18,8 +18,6 @@ use Rattle.frame.proofs.Found.{Paged, page-is}
 use Rattle.frame.proofs.Walks.{pages-on, shapes-on, within_on}
 use Rattle.frame.specs.Ahead.{Ahead, Begun}
 use Rattle.frame.proofs.Ahead.{ahead-one, ahead-end, ahead-page, ahead-fewer}
-use Rattle.search.specs.declared.count.Counted.{Counted}
-use Rattle.search.specs.declared.count.Counted.TheVariants.{Hits, Refused}
 use Rattle.search.specs.Ascending.{Ascending}
 use Rattle.search.specs.Search.{page_hits, met_of, met_in}
 use Rattle.search.specs.Flags.{bits_of}
@@ -68,7 +66,7 @@ meeting-start a s d c b = record {
 
 module _ (a : Ask) (s d₀ : List ℕ) (c : Cursor) (found : ℕ) (d : List ℕ) (w : Meeting a s d₀ c found d) where
   -- at the end all is done
-  pub meeting-end : next_of s c ≡ ok end → Meets (met_in a s) 0 262144 (Hits found) d₀ d
+  pub meeting-end : next_of s c ≡ ok end → Meets (met_in a s) 0 262144 (ok found) d₀ d
   meeting-end e = meets-ok found w.done all w.count (record { added = w.bits })
     where
       all : met_in a s ≡ ok w.done
@@ -89,19 +87,19 @@ module _ (a : Ask) (s d₀ : List ℕ) (c : Cursor) (found : ℕ) (d : List ℕ)
     pub meeting-fewer : 1025 - p.next.pages < 1025 - c.pages
     meeting-fewer = ahead-fewer s c w.pages w.ahead p here
 
-    module _ (h : Counted) (e' : List ℕ) (m : Meets (page_hits a c.pages c.shapes (page_of s p)) c.shapes (c.shapes + p.head.g) h d e') where
+    module _ (h : Out ℕ) (e' : List ℕ) (m : Meets (page_hits a c.pages c.shapes (page_of s p)) c.shapes (c.shapes + p.head.g) h d e') where
       rest : (qs : List Page) × (w.pages ≡ page_of s p ∷ qs) × Ahead s p.next qs
       rest = ahead-page s c w.pages w.ahead p here
 
       -- its contents are refused
-      pub meeting-refused : (x : Refusal) → h ≡ Refused x → Meets (met_in a s) 0 262144 (Refused x) d₀ e'
+      pub meeting-refused : (x : Refusal) → h ≡ refused x → Meets (met_in a s) 0 262144 (refused x) d₀ e'
       meeting-refused x q =
           meets-refused x
           (w.same
           ∙ met-stopped (met_of a c.pages c.shapes w.pages) w.done x
           (ap (met_of a c.pages c.shapes) rest.1 ∙ met-refused a c.pages c.shapes (page_of s p) rest.0 x (meets-refusal h m x q)))
 
-      module _ (j : ℕ) (q : h ≡ Hits j) where
+      module _ (j : ℕ) (q : h ≡ ok j) where
         own : (l : List ℕ) × (page_hits a c.pages c.shapes (page_of s p) ≡ ok l) × (j ≡ length l)
         own = meets-hits h m j q
 

@@ -23,36 +23,32 @@ use Rattle.page.specs.Contents.{registers_of, types_of, counts_of, lens_of, cont
 use Rattle.page.specs.Loaded.{Loaded}
 use Rattle.answer.proofs.Orders.{on-refused, on_value, on-stopped}
 use Rattle.page.proofs.Contained.{contents-contained, outlines-long, shapes-outlines, loaded-ready}
-use Rattle.search.specs.declared.count.Counted.{Counted}
-use Rattle.search.specs.declared.count.Counted.TheVariants.{Hits, Refused}
 use Rattle.search.specs.Ascending.{Ascending, none}
-use Rattle.search.specs.Search.{places_of, hits_from, opened_hits, page_hits, said_count}
+use Rattle.search.specs.Search.{places_of, hits_from, opened_hits, page_hits}
 use Rattle.search.specs.Flags.{bits_of, Adds}
 use Rattle.search.specs.Met.{Meets, PageMeets}
 use Rattle.search.proofs.Placing.{places-ascend}
 
 -- ---- what the walk says of an outcome
 
-pub meets-refused : {o : Out (List ℕ)} {n to : ℕ} {d e : List ℕ} (w : Refusal) → o ≡ refused w → Meets o n to (Refused w) d e
-unfolding said_count on
+pub meets-refused : {o : Out (List ℕ)} {n to : ℕ} {d e : List ℕ} (w : Refusal) → o ≡ refused w → Meets o n to (refused w) d e
+unfolding on
 meets-refused w q = record { said = rw q; flags = λ l k. absurd (never (sym q ∙ k)) }
 
 pub meets-ok : {o : Out (List ℕ)} {n to : ℕ} {d e : List ℕ} (r : ℕ) (l : List ℕ) → o ≡ ok l → r ≡ length l → Adds d e n to (bits_of l)
-    → Meets o n to (Hits r) d e
-unfolding said_count on
+    → Meets o n to (ok r) d e
+unfolding on
 meets-ok {n = n} {to = to} {d = d} {e = e} r l q h a = record {
   said = rw (q, h);
   flags = λ m k. subst (λ (x : List ℕ). Adds d e n to (bits_of x)) (ok-inj (sym q ∙ k)) a;
 }
 
 -- and back
-module _ {o : Out (List ℕ)} {n to : ℕ} {d e : List ℕ} (r : Counted) (m : Meets o n to r d e) where
-  pub meets-refusal : (w : Refusal) → r ≡ Refused w → o ≡ refused w
-  unfolding said_count
+module _ {o : Out (List ℕ)} {n to : ℕ} {d e : List ℕ} (r : Out ℕ) (m : Meets o n to r d e) where
+  pub meets-refusal : (w : Refusal) → r ≡ refused w → o ≡ refused w
   meets-refusal w q = on-stopped o length w (sym m.said ∙ rw q)
 
-  pub meets-hits : (k : ℕ) → r ≡ Hits k → (l : List ℕ) × (o ≡ ok l) × (k ≡ length l)
-  unfolding said_count
+  pub meets-hits : (k : ℕ) → r ≡ ok k → (l : List ℕ) × (o ≡ ok l) × (k ≡ length l)
   meets-hits k q = let x = on-ok o _ k (sym m.said ∙ rw q) in (x.0, x.1, sym (ok-inj x.2))
 
 -- ---- the hits of a page
@@ -94,13 +90,13 @@ module _ (a : Ask) (k n : ℕ) (p : Page) where
 -- ---- the contents of a page that was opened
 
 pub opened-bad : (a : Ask) (k n to : ℕ) (p : Page) {d e : List ℕ} (w : Refusal) → in_page k (contents_of p.head p.body) ≡ refused w
-    → Meets (opened_hits a k n p) n to (Refused w) d e
+    → Meets (opened_hits a k n p) n to (refused w) d e
 opened-bad a k n to p w q = meets-refused w (on-refused (in_page k (contents_of p.head p.body)) _ w q)
 
 module _ (h : Head) (b counts lens xs ys : List ℕ) (y : Loaded h b counts lens xs ys) (types : List ℕ) (t : types ≡ types_of h b) where
   pub contents-met : (a : Ask) (k n : ℕ) {d e : List ℕ} (r : ℕ) → r ≡ length (places_of a n (outlines_of types counts lens xs ys))
       → Adds d e n (n + length types) (bits_of (places_of a n (outlines_of types counts lens xs ys)))
-      → Meets (on (in_page k (contents_of h b)) (λ here. ok (hits_from a n here))) n (n + h.g) (Hits r) d e
+      → Meets (on (in_page k (contents_of h b)) (λ here. ok (hits_from a n here))) n (n + h.g) (ok r) d e
   contents-met a k n {d = d} {e = e} r c f =
       let ss = registered (registers_of h b) (outlines_of (types_of h b) counts lens xs ys) in
       let z : hits_from a n ss ≡ places_of a n (outlines_of types counts lens xs ys) = rw (t, y.counts_are, y.lens_are) (shapes-hits h b xs ys (rw (← y.counts_are, ← y.lens_are) y.parts) a n) in
@@ -109,12 +105,12 @@ module _ (h : Head) (b counts lens xs ys : List ℕ) (y : Loaded h b counts lens
       (subst (λ (m : ℕ). Adds d e n (n + m) (bits_of (places_of a n (outlines_of types counts lens xs ys)))) (loaded-ready h b counts lens xs ys y types t).0 f)
 
 -- so what is said of an opened page's contents is said of its hits
-pub opened-meets : {d e : List ℕ} (a : Ask) (k n to : ℕ) (p : Page) (r : Counted) → opens a p.head.v (patterns p.head.stored) ≡ true
+pub opened-meets : {d e : List ℕ} (a : Ask) (k n to : ℕ) (p : Page) (r : Out ℕ) → opens a p.head.v (patterns p.head.stored) ≡ true
     → Meets (opened_hits a k n p) n to r d e → Meets (page_hits a k n p) n to r d e
 opened-meets {d = d} {e = e} a k n to p r t m = subst (λ (o : Out (List ℕ)). Meets o n to r d e) (sym (page-open a k n p t)) m
 
 -- and of the page that stands at a cursor, since there is only one
-pub meets-there : {d e : List ℕ} (a : Ask) (s : List ℕ) (c : Cursor) (r : Counted) (p : PageAt) → next_of s c ≡ ok (page p)
+pub meets-there : {d e : List ℕ} (a : Ask) (s : List ℕ) (c : Cursor) (r : Out ℕ) (p : PageAt) → next_of s c ≡ ok (page p)
     → Meets (opened_hits a c.pages c.shapes (page_of s p)) c.shapes (c.shapes + p.head.g) r d e → PageMeets a s c r d e
 meets-there {d = d} {e = e} a s c r p f m q g =
     subst (λ (x : PageAt). Meets (opened_hits a c.pages c.shapes (page_of s x)) c.shapes (c.shapes + x.head.g) r d e) (page-inj (ok-inj (sym f ∙ g))) m

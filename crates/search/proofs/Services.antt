@@ -10,21 +10,18 @@ use lib.ListN.{length, drop, replicate}
 use lib.Seq.{sets, sets-eq}
 use Rattle.answer.specs.Table as table
 use Rattle.answer.specs.declared.Refusal.{Refusal}
-use Rattle.answer.specs.declared.Filled.TheVariants as filled
-use Rattle.answer.specs.declared.Verdict.TheVariants as verdict
 use Rattle.answer.specs.Refusal.{because}
 use Rattle.answer.specs.Outcome.{Out, refused, ok, need, on, Fills}
-use Rattle.answer.specs.Rule.{rule, judged}
-use Rattle.answer.proofs.Outcomes.{never, ok-inj, refused-inj, met, unmet, fills-refused, fills-ok}
-use Rattle.answer.proofs.Rules.{judged-holds, rule-holds, rule-ok}
+use Rattle.answer.specs.Rule.{rule}
+use Rattle.answer.proofs.Determined.{answer-one}
+use Rattle.answer.proofs.Outcomes.{met, unmet, fills-refused, fills-ok}
+use Rattle.answer.proofs.Rules.{rule-holds, rule-ok}
 use Rattle.le.specs.Number.{number}
 use Rattle.query.specs.declared.ask.Ask.{Ask}
 use Rattle.query.specs.Ask.{good_query}
 use Rattle.frame.specs.Frame.{frame_of}
 use Rattle.answer.proofs.Orders.{on-refused, on_value, then-refused, then-holds}
-use Rattle.search.specs.declared.count.Counted.{Counted}
-use Rattle.search.specs.declared.count.Counted.TheVariants.{Hits, Refused}
-use Rattle.search.specs.Search.{met_in, hits_of, search_of, count_of, said_count}
+use Rattle.search.specs.Search.{met_in, hits_of, search_of, count_of}
 use Rattle.search.specs.Met.{Meets}
 use Rattle.search.specs.Flags.{places_in}
 use Rattle.search.proofs.Sequence.{met-order, hits-order}
@@ -34,38 +31,30 @@ use Rattle.search.proofs.Ordered.{hits-back}
 -- ---- the hits of a file
 
 -- what the judged query says
-pub query-sound : (a : Ask) → judged verdict.Holds ≡ rule (good_query a.query) table.query → good_query a.query ≡ true
-query-sound a q = rule-ok (good_query a.query) table.query tt (sym q ∙ judged-holds)
+pub query-sound : (a : Ask) → (ok tt) ≡ rule (good_query a.query) table.query → good_query a.query ≡ true
+query-sound a q = rule-ok (good_query a.query) table.query tt (sym q)
 
 module _ (a : Ask) (s : List ℕ) where
-  pub query-refused : (w : Refusal) → judged (verdict.Refused w) ≡ rule (good_query a.query) table.query → hits_of a s ≡ refused w
+  pub query-refused : (w : Refusal) → refused w ≡ rule (good_query a.query) table.query → hits_of a s ≡ refused w
   query-refused w q = hits-order a s ∙ then-refused (rule (good_query a.query) table.query) _ w q
 
   -- of a good query
   module _ (q : good_query a.query ≡ true) where
     pub sound-met : hits_of a s ≡ met_in a s
-    sound-met = hits-order a s ∙ then-holds (rule (good_query a.query) table.query) _ (judged-holds ∙ sym (rule-holds (good_query a.query) table.query q))
+    sound-met = hits-order a s ∙ then-holds (rule (good_query a.query) table.query) _ (sym (rule-holds (good_query a.query) table.query q))
 
-    pub frame_refused : {n to : ℕ} {d e : List ℕ} (w : Refusal) → frame_of s ≡ refused w → Meets (hits_of a s) n to (Refused w) d e
+    pub frame_refused : {n to : ℕ} {d e : List ℕ} (w : Refusal) → frame_of s ≡ refused w → Meets (hits_of a s) n to (refused w) d e
     frame_refused w e = meets-refused w (sound-met ∙ met-order a s ∙ on-refused (frame_of s) _ w e)
 
 -- ---- the count
 
-pub count-said : (a : Ask) (s : List ℕ) (r : Counted) → said_count r ≡ on (hits_of a s) (λ l. ok (length l)) → said_count r ≡ count_of a s
+pub count-said : (a : Ask) (s : List ℕ) (r : Out ℕ) → r ≡ on (hits_of a s) (λ l. ok (length l)) → r ≡ count_of a s
 unfolding count_of
 count-said a s r e = e
 
-pub count-refused : (a : Ask) (s : List ℕ) (w : Refusal) → hits_of a s ≡ refused w → said_count (Refused w) ≡ count_of a s
-unfolding count_of said_count
+pub count-refused : (a : Ask) (s : List ℕ) (w : Refusal) → hits_of a s ≡ refused w → refused w ≡ count_of a s
+unfolding count_of
 count-refused a s w e = sym (on-refused (hits_of a s) _ w e)
-
--- an answer is determined by what it says
-pub said-count-one : (x y : Counted) → said_count x ≡ said_count y → x ≡ y
-unfolding said_count
-said-count-one (Hits m) (Hits n) e = ap Hits (ok-inj e)
-said-count-one (Hits m) (Refused w) e = absurd (never (sym e))
-said-count-one (Refused w) (Hits n) e = absurd (never e)
-said-count-one (Refused w) (Refused x) e = ap Refused (refused-inj e)
 
 -- ---- the search
 
@@ -101,7 +90,7 @@ pub record Flagged (a : Ask) (s e : List ℕ) (n : ℕ) : Type 0 where
   pub count : n ≡ length places
   pub listed : places_in 0 262144 (number e) ≡ places
 
-pub noted : (a : Ask) (s d e : List ℕ) (r : Counted) (n : ℕ) → Meets (hits_of a s) 0 262144 r d e → r ≡ Hits n → number d ≡ 0 → length d ≡ 32768
+pub noted : (a : Ask) (s d e : List ℕ) (r : Out ℕ) (n : ℕ) → Meets (hits_of a s) 0 262144 r d e → r ≡ ok n → number d ≡ 0 → length d ≡ 32768
     → Flagged a s e n
 noted a s d e r n m q z k =
     let h = meets-hits r m n q in
@@ -109,16 +98,20 @@ noted a s d e r n m q z k =
     record { places = h.0; hits = h.1; count = h.2; listed = hits-back a s h.0 h.1 (number e) (omega (arith, x, z)) }
 
 module _ (a : Ask) (s e : List ℕ) (n : ℕ) (w : Flagged a s e n) (out : List ℕ) where
-  pub search-no-room : length out < n → Fills (search_of a s (length out)) out (filled.Refused (because table.room)) out
+  pub search-no-room : length out < n → Fills (search_of a s (length out)) out (refused (because table.room)) out
   search-no-room h = fills-refused (because table.room) (search-room a s (length out) w.places w.hits (omega (arith, h, w.count)))
 
   pub search-counts : n ≡ length (places_in 0 262144 (number e))
   search-counts = w.count ∙ ap length (sym w.listed)
 
   pub search-lists : (left : List ℕ) → n ≤ length out → left ≡ sets out 0 (places_in 0 262144 (number e))
-      → Fills (search_of a s (length out)) out (filled.Start n) left
+      → Fills (search_of a s (length out)) out (ok n) left
   search-lists left h q =
       let c = w.count in
       let z : 0 + length w.places ≡ n = omega (arith, c) in
       fills-ok w.places n left (search-hits a s (length out) w.places w.hits (omega (arith, h, c))) c
       (q ∙ ap (sets out 0) w.listed ∙ sets-eq w.places out 0 (omega (arith, h, c)) ∙ ap (λ (k : ℕ). w.places ++ drop k out) z)
+
+-- two counts of one query are the same
+pub said-count-one : {o x y : Out ℕ} → x ≡ o → y ≡ o → x ≡ y
+said-count-one = answer-one

@@ -1,11 +1,9 @@
--- What asking the shapes of a page counts on, since the page's rules have passed: for inner walks; no service speaks of it. Assumes nothing.
-use Rattle.std.specs.Prelude.{ℕ, ◌≡◌, true, List, length}
+-- What asking the shapes of a page counts on, since rule 12 has passed: for inner walks; no service speaks of it. Assumes nothing.
+use Rattle.std.specs.Prelude.{◌≡◌, true}
 use Rattle.extent.specs.Rank.{all_finite}
-use Rattle.types.specs.Parts.{parts_hold}
+use Rattle.shape.specs.declared.lists.Lists.{Lists}
 
--- a page's lists: rule 11 let them pass, there is a y for each x, and every vertex is finite
-pub record Askable (types counts lens xs ys : List ℕ) : Type 0 where
-  pub parts : parts_hold types counts lens (length xs) ≡ true
-  pub same : length ys ≡ length xs
-  pub finite_x : all_finite xs ≡ true
-  pub finite_y : all_finite ys ≡ true
+-- a page's lists with every vertex finite
+pub record Askable (p : Lists) : Type 0 where
+  pub finite_x : all_finite p.xs.now ≡ true
+  pub finite_y : all_finite p.ys.now ≡ true

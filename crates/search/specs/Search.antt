@@ -3,7 +3,7 @@
 use Rattle.std.specs.Prelude.{ℕ, suc, ◌+◌, cond, List, [], ◌∷◌, ◌++◌, map, length, leb}
 use Rattle.answer.specs.Table as table
 use Rattle.answer.specs.Refusal.{because}
-use Rattle.answer.specs.Outcome.{Out, refused, ok, need, on, in_page}
+use Rattle.answer.specs.Outcome.{Out, ok, need, on, in_page}
 use Rattle.answer.specs.Rule.{rule}
 use Rattle.extent.specs.Boxes.{patterns}
 use Rattle.query.specs.declared.ask.Ask.{Ask}
@@ -11,8 +11,6 @@ use Rattle.query.specs.Ask.{good_query, hit, opens}
 use Rattle.shape.specs.Outline.{Outline, Shape}
 use Rattle.frame.specs.Frame.{Page, frame_of}
 use Rattle.page.specs.Contents.{contents_of}
-use Rattle.search.specs.declared.count.Counted.{Counted}
-use Rattle.search.specs.declared.count.Counted.TheVariants.{Hits, Refused}
 
 -- the places, from n on, of the outlines that are hit
 unfoldable pub places_of : Ask → ℕ → List Outline → List ℕ
@@ -54,8 +52,3 @@ search_of a s room = on (hits_of a s) (λ l. need (leb (length l) room) (because
 -- the count-only search
 unfoldable pub count_of : Ask → List ℕ → Out ℕ
 count_of a s = on (hits_of a s) (λ l. ok (length l))
-
--- what the code's answer says
-unfoldable pub said_count : Counted → Out ℕ
-said_count (Hits n) = ok n
-said_count (Refused w) = refused w

@@ -49,6 +49,7 @@ fn list_word(x: u64, n: usize, out: &mut [u32], at: usize) -> usize
     requires { (n + 64 ≤ most_shapes) × (at + length (places_in n 64 x) ≤ length out.old) }
     ensures { (result ≡ at + length (places_in n 64 x)) × (out.new ≡ sets out.old at (places_in n 64 x)) }
 {
+    // By places it would be `for place in n..n + 64` with a test that leaves it where no bit is left: a second way out, and no plainer.
     let mut y = x;
     let mut place = n;
     let mut k = at;
@@ -65,6 +66,7 @@ pub(crate) fn list_flags(flags: &[u8], n: usize, out: &mut [u32])
     requires { (n ≡ length (places_in 0 most_shapes (number flags.now))) × (n ≤ length out.old) }
     ensures { out.new ≡ sets out.old 0 (places_in 0 most_shapes (number flags.now)) }
 {
+    // It goes by what is left to list, and not by the words: a `for` over their places would want a test that leaves it, and be no plainer.
     let mut k: usize = 0;
     let mut place: usize = 0;
     while k < n {

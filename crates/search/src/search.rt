@@ -4,38 +4,31 @@ ghost use Rattle.answer.specs.Outcome.{Fills};
 ghost use Rattle.query.specs.Ask.{good_query};
 ghost use Rattle.search.specs.Search.{search_of};
 
-use crate::count::Counted;
 use crate::flags::list_flags;
 use crate::found::hits_of;
+use answer::Refusal;
 use answer::table::ROOM;
-use answer::{Filled, Refusal, Verdict};
 use query::ask::{Ask, judge};
 
 // Lists the places of what a good query hits in a file, any bytes. One bit for each place of a file is kept, so that each page is decoded once and
 // nothing is written before the last refusal is past.
-pub fn search_good(a: Ask, s: &[u8], out: &mut [u32]) -> Filled
+pub fn search_good(a: Ask, s: &[u8], out: &mut [u32]) -> Result<usize, Refusal>
     requires { good_query a.query ≡ true }
     ensures { Fills (search_of a s.now (length out.old)) out.old result out.new }
 {
     let mut flags = [0u8; 32768];
-    match hits_of(a, s, &mut flags) {
-        Counted::Refused(w) => Filled::Refused(w),
-        Counted::Hits(n) => {
-            if out.len() < n {
-                return Filled::Refused(Refusal::because(ROOM));
-            }
-            list_flags(&flags, n, out);
-            Filled::Start(n)
-        }
+    let n = hits_of(a, s, &mut flags)?;
+    if out.len() < n {
+        return Err(Refusal::because(ROOM));
     }
+    list_flags(&flags, n, out);
+    Ok(n)
 }
 
 // Lists what any query hits.
-pub fn search(a: Ask, s: &[u8], out: &mut [u32]) -> Filled
+pub fn search(a: Ask, s: &[u8], out: &mut [u32]) -> Result<usize, Refusal>
     ensures { Fills (search_of a s.now (length out.old)) out.old result out.new }
 {
-    if let Verdict::Refused(w) = judge(a) {
-        return Filled::Refused(w);
-    }
+    judge(a)?;
     search_good(a, s, out)
 }

@@ -9,8 +9,7 @@ loop-y-init c = wording-none _ _ _ _ c.ranges.x.fits
 pub list_bit-k-requires : goal.list_bit-k-requires
 list_bit-k-requires c =
     let w = c.loop-y.invariant in
-    let st = c in
-    (omega (arith, wording-here _ _ _ _ _ _ _ _ w c.loop-y-test.true, st.requires.0), wording-room _ _ _ _ _ _ _ _ w c.loop-y-test.true st.requires.1)
+    (omega (arith, wording-here _ _ _ _ _ _ _ _ w c.loop-y-test.true, c.requires.0), wording-room _ _ _ _ _ _ _ _ w c.loop-y-test.true c.requires.1)
 
 pub overflow_add-place : goal.overflow_add-place
 overflow_add-place c =

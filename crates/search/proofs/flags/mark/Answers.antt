@@ -7,6 +7,5 @@ use Rattle.search.proofs.flags.mark.Goals as goal
 
 pub returns-then-i-flags : goal.returns-then-i-flags
 returns-then-i-flags c =
-    let st = c in
-    mark-law st.args.flags.now st.args.place _ _ (λ i. (c.slice_known-1.given i).fits) c.low.ensures
-    (ap (bit_or ((1 * 2 ^ (st.args.place % 8)) % 2 ^ 64)) c.wide-held.ensures)
+    mark-law c.args.flags.now c.args.place _ _ (λ i. (c.slice_known-1.given i).fits) c.low.ensures
+    (ap (bit_or ((1 * 2 ^ (c.args.place % 8)) % 2 ^ 64)) c.wide-held.ensures)

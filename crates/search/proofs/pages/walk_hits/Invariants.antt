@@ -3,7 +3,6 @@
 use mathlib.Core.Path.{◌≡◌}
 use mathlib.Core.Bool.{true}
 use Prim.Native.Nat.{◌-◌}
-use lib.ListN.{length}
 use Rattle.answer.specs.Outcome.{ok}
 use Rattle.extent.specs.Boxes.{patterns}
 use Rattle.query.specs.Ask.{opens}
@@ -16,7 +15,6 @@ abbrev pub invariant-loop-a : goal.invariant-loop-a
 invariant-loop-a l =
     Meeting l.a l.s l.initial.flags l.c l.found l.flags
     × ((p : PageAt) → next_of l.s l.c ≡ ok (page p) → opens l.a p.head.v (patterns p.head.stored) ≡ true)
-    × (length l.counts ≡ length l.initial.counts) × (length l.lens ≡ length l.initial.lens) × (length l.xs ≡ length l.initial.xs) × (length l.ys ≡ length l.initial.ys)
 
 abbrev pub decreases-loop-a : goal.decreases-loop-a
 decreases-loop-a l = 1025 - l.c.pages
