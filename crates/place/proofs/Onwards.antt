@@ -7,7 +7,7 @@ use native.Mathlib.Omega.{arith}
 use Rattle.answer.specs.Table as table
 use Rattle.answer.specs.Refusal.{because}
 use Rattle.answer.specs.declared.Refusal.{Refusal}
-use Rattle.answer.specs.Outcome.{refused, ok}
+use Rattle.answer.specs.Outcome.{refused, ok, Out}
 use Rattle.frame.specs.declared.cursor.Cursor.{Cursor}
 use Rattle.frame.specs.declared.cursor.PageAt.{PageAt}
 use Rattle.frame.specs.Next.{page, end, next_of}
@@ -16,10 +16,9 @@ use Rattle.frame.proofs.Found.{Paged, page-is}
 use Rattle.frame.proofs.Walks.{pages-on, shapes-on}
 use Rattle.frame.specs.Ahead.{Ahead, Begun}
 use Rattle.frame.proofs.Ahead.{ahead-end, ahead-page, ahead-fewer}
+use Rattle.answer.proofs.Outcomes.{never, ok-inj}
 use Rattle.answer.proofs.Orders.{on-refused, on_value}
 use Rattle.place.specs.declared.seek.SeatAt.{SeatAt}
-use Rattle.place.specs.declared.seek.Sought.{Sought}
-use Rattle.place.specs.declared.seek.Sought.TheVariants.{At, Refused}
 use Rattle.place.specs.Seek.{seek_in, seat_of, seat_at, said_sought}
 use Rattle.place.specs.Onward.{Onward, Seated, Seeks}
 use Rattle.place.proofs.Seeking.{seek-none, seek-here, seek-on}
@@ -36,26 +35,26 @@ seat-sound s n f e = on_value (frame_of s) _ f e
 
 -- ---- what is said
 
-pub said-refused : (s : List ℕ) (w : Refusal) → said_sought s (Refused w) ≡ refused w
+pub said-refused : (s : List ℕ) (w : Refusal) → said_sought s (refused w) ≡ refused w
 unfolding said_sought
 said-refused s w = refl
 
-pub said-seat : (s : List ℕ) (t : SeatAt) → said_sought s (At t) ≡ ok (seat_at s t)
+pub said-seat : (s : List ℕ) (t : SeatAt) → said_sought s (ok t) ≡ ok (seat_at s t)
 unfolding said_sought
 said-seat s t = refl
 
 -- a refusal has no seat
-pub seeks-refused : (s : List ℕ) (place : ℕ) (w : Refusal) → seat_of s place ≡ refused w → Seeks s place (Refused w)
+pub seeks-refused : (s : List ℕ) (place : ℕ) (w : Refusal) → seat_of s place ≡ refused w → Seeks s place (refused w)
 seeks-refused s place w e = record {
   said = said-refused s w ∙ sym e;
-  seat = λ t q. absurd (let z : ◌≡◌ {A = ℕ} 0 1 = cc in omega arith);
+  seat = λ t q. absurd (never q);
 }
 
-module _ (s : List ℕ) (place : ℕ) (r : Sought) (k : Seeks s place r) where
-  pub sought-refused : (w : Refusal) → r ≡ Refused w → seat_of s place ≡ refused w
+module _ (s : List ℕ) (place : ℕ) (r : Out SeatAt) (k : Seeks s place r) where
+  pub sought-refused : (w : Refusal) → r ≡ refused w → seat_of s place ≡ refused w
   sought-refused w e = sym k.said ∙ ap (said_sought s) e ∙ said-refused s w
 
-  pub sought-seat : (t : SeatAt) → r ≡ At t → seat_of s place ≡ ok (seat_at s t)
+  pub sought-seat : (t : SeatAt) → r ≡ ok t → seat_of s place ≡ ok (seat_at s t)
   sought-seat t e = sym k.said ∙ ap (said_sought s) e ∙ said-seat s t
 
 -- the page of a seat is found in the file
@@ -76,7 +75,7 @@ onward-first s c b = record {
 
 module _ (s : List ℕ) (place : ℕ) (c : Cursor) (o : Onward s c) (h : c.shapes ≤ place) where
   -- at the end there is no shape at that place
-  pub onward-end : next_of s c ≡ ok end → Seeks s place (Refused (because table.place))
+  pub onward-end : next_of s c ≡ ok end → Seeks s place (refused (because table.place))
   onward-end e =
       let z : o.pages ≡ [] = ahead-end s c o.pages o.ahead e in
       seeks-refused s place (because table.place)
@@ -93,7 +92,7 @@ module _ (s : List ℕ) (place : ℕ) (c : Cursor) (o : Onward s c) (h : c.shape
     shapes = shapes-on s c o.ahead.within p (page-is s c p here)
 
     -- the place lies in this page
-    pub onward-here : place < p.next.shapes → Seeks s place (At (record { at = c; page = p; index = place - c.shapes }))
+    pub onward-here : place < p.next.shapes → Seeks s place (ok (record { at = c; page = p; index = place - c.shapes }))
     onward-here l = record { said = said-seat s mine ∙ sym seat; seat = λ t q. placed t q }
       where
         mine : SeatAt
@@ -105,8 +104,8 @@ module _ (s : List ℕ) (place : ℕ) (c : Cursor) (o : Onward s c) (h : c.shape
         own : Seated s place mine
         own = record { onward = o; found = here; within = omega (arith, shapes); there = omega arith }
 
-        placed : (t : SeatAt) → At mine ≡ At t → Seated s place t
-        placed t q = let z : mine ≡ t = cc in rw (← z) own
+        placed : (t : SeatAt) → ◌≡◌ {A = Out SeatAt} (ok mine) (ok t) → Seated s place t
+        placed t q = rw (← ok-inj q) own
 
     -- or behind it
     pub onward-more : Onward s p.next

@@ -11,7 +11,6 @@ use lib.Seq.{take_all}
 use Rattle.answer.specs.Table as table
 use Rattle.answer.specs.Refusal.{because}
 use Rattle.answer.specs.declared.Refusal.{Refusal}
-use Rattle.answer.specs.declared.Filled.TheVariants as filled
 use Rattle.answer.specs.Outcome.{Out, refused, ok, on, Fills}
 use Rattle.answer.proofs.Outcomes.{never, ok-inj, met, unmet, on-ok, fills-refused, fills-ok}
 use Rattle.answer.proofs.Both.{both_l, both_r}
@@ -22,11 +21,10 @@ use Rattle.frame.specs.declared.cursor.Cursor.{Cursor}
 use Rattle.frame.specs.Next.{part}
 use Rattle.frame.specs.declared.walk.Totals.{Totals}
 use Rattle.frame.specs.Frame.{Page, Frame, shapes_of, frame_of, totals_of}
+use Rattle.frame.proofs.Walks.{sound-said}
 use Rattle.answer.proofs.Orders.{on-refused, on_value}
 use Rattle.place.specs.declared.row.Row.{Row}
 use Rattle.place.specs.declared.seek.SeatAt.{SeatAt}
-use Rattle.place.specs.declared.seek.Sought.{Sought}
-use Rattle.place.specs.declared.seek.Sought.TheVariants.{At, Refused}
 use Rattle.place.specs.Seek.{Seat, seek_in, seat_of}
 use Rattle.place.specs.Onward.{Onward, Seeks}
 use Rattle.place.specs.Row.{row_of}
@@ -138,21 +136,22 @@ module _ (s places : List ℕ) where
         room-both h = on_value (rows_in s places) _ rs e ∙ met (because table.room) (ok rs) (rw (le-leb (length places) a l, le-leb (length places) b h)) ∙ sym e
 
 -- as the code was told how many shapes there are
-module _ (s places : List ℕ) (f : Frame) (n : Totals) (e : frame_of s ≡ ok f) (q : totals_of f ≡ n) where
-  counted : (λ (p : ℕ). ltb p n.shapes) ≡ there f.pages
-  counted = ap (λ (m : Totals). λ (p : ℕ). ltb p m.shapes) (sym q)
+module _ (s places : List ℕ) (o : Out Totals) (q : o ≡ on (frame_of s) (λ f. ok (totals_of f))) (n : Totals) (e : o ≡ ok n) where
+  told : (f : Frame) × (frame_of s ≡ ok f) × (totals_of f ≡ n)
+  told = sound-said s o q n e
+
+  among : (b : Bool) → all_of (λ (p : ℕ). ltb p n.shapes) places ≡ b → all_of (there told.0.pages) places ≡ b
+  among b h = ap (λ (m : Totals). all_of (λ (p : ℕ). ltb p m.shapes) places) told.2 ∙ h
 
   pub no_rows : all_of (λ (p : ℕ). ltb p n.shapes) places ≡ false → rows_in s places ≡ refused (because table.place)
-  no_rows h = rows-sound s places f e ∙ rows-missing f.pages places (ap (λ (g : ℕ → Bool). all_of g places) (sym counted) ∙ h)
+  no_rows h = rows-sound s places told.0 told.1 ∙ rows-missing told.0.pages places (among false h)
 
   pub all-rows : all_of (λ (p : ℕ). ltb p n.shapes) places ≡ true → (rs : List Row) × (rows_in s places ≡ ok rs)
-  all-rows h =
-      let r = rows-there f.pages places (ap (λ (g : ℕ → Bool). all_of g places) (sym counted) ∙ h) in
-      (r.0, rows-sound s places f e ∙ r.1)
+  all-rows h = let r = rows-there told.0.pages places (among true h) in (r.0, rows-sound s places told.0 told.1 ∙ r.1)
 
 -- a refusal leaves both rooms
 pub both-refused : {o : Out (List Row)} {dr dt : List ℕ} (w : Refusal) → o ≡ refused w
-    → Fills (registers_from o) dr (filled.Refused w) dr × Fills (types_from o) dt (filled.Refused w) dt
+    → Fills (registers_from o) dr (refused w) dr × Fills (types_from o) dt (refused w) dt
 unfolding registers_from types_from
 both-refused {o = o} w e = (fills-refused w (on-refused o _ w e), fills-refused w (on-refused o _ w e))
 
@@ -199,7 +198,7 @@ module _ (s places dr dt : List ℕ) (c : Cursor) (i : ℕ) (er et : List ℕ) (
   long : length w.rows ≡ length places
   long = framed.2.long
 
-  module _ (h : i < length places) (r : Sought) (k : Seeks s (get_or places i 0) r) where
+  module _ (h : i < length places) (r : Out SeatAt) (k : Seeks s (get_or places i 0) r) where
     mine : (t : Seat) × (seek_in 0 (get_or places i 0) framed.0.pages ≡ ok t) × (get_or w.rows i no_row ≡ seat_row t)
     mine = framed.2.each i h
 
@@ -207,11 +206,11 @@ module _ (s places dr dt : List ℕ) (c : Cursor) (i : ℕ) (er et : List ℕ) (
     sought = seat-sound s (get_or places i 0) framed.0 framed.1 ∙ mine.1
 
     -- no place is refused
-    pub listing-never : {A : Type 0} (x : Refusal) → r ≡ Refused x → A
+    pub listing-never : {A : Type 0} (x : Refusal) → r ≡ refused x → A
     listing-never x e = absurd (never (sym (sought-refused s (get_or places i 0) r k x e) ∙ sought))
 
     -- the row of the place at i
-    pub listing-more : (t : SeatAt) (row : Row) → r ≡ At t → row ≡ row_of t.page.head (part s t.page.body t.page.len) t.index
+    pub listing-more : (t : SeatAt) (row : Row) → r ≡ ok t → row ≡ row_of t.page.head (part s t.page.body t.page.len) t.index
         → Listing s places dr dt t.at (i + 1) (set er i row.register) (set et i row.kind)
     listing-more t row e q = record {
       few = omega arith;
@@ -233,7 +232,7 @@ module _ (s places dr dt : List ℕ) (c : Cursor) (i : ℕ) (er et : List ℕ) (
         own f = ap f same ∙ sym (get_or-map f w.rows i no_row)
 
   -- all are done
-  pub listing-done : length places ≤ i → Fills (registers_from (rows_in s places)) dr (filled.Start (length places)) er × Fills (types_from (rows_in s places)) dt (filled.Start (length places)) et
+  pub listing-done : length places ≤ i → Fills (registers_from (rows_in s places)) dr (ok (length places)) er × Fills (types_from (rows_in s places)) dt (ok (length places)) et
   unfolding registers_from types_from
   listing-done h =
       let z : i ≡ length places = omega (arith, w.few) in

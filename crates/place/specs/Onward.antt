@@ -1,13 +1,11 @@
 -- A cursor from which a place may be sought as well as from the first page; what seeking from it gives. Assumes nothing.
 use Rattle.std.specs.Prelude.{ℕ, ◌+◌, ◌-◌, ◌≤◌, ◌<◌, ◌≡◌, List}
-use Rattle.answer.specs.Outcome.{ok}
+use Rattle.answer.specs.Outcome.{Out, ok}
 use Rattle.frame.specs.declared.cursor.Cursor.{Cursor}
 use Rattle.frame.specs.Next.{page, next_of}
 use Rattle.frame.specs.Frame.{Page}
 use Rattle.frame.specs.Ahead.{Ahead}
 use Rattle.place.specs.declared.seek.SeatAt.{SeatAt}
-use Rattle.place.specs.declared.seek.Sought.{Sought}
-use Rattle.place.specs.declared.seek.Sought.TheVariants.{At}
 use Rattle.place.specs.Seek.{seek_in, seat_of, said_sought}
 
 -- the pages from the cursor on, and that a place not before it has its seat among them
@@ -24,6 +22,6 @@ pub record Seated (s : List ℕ) (place : ℕ) (t : SeatAt) : Type 0 where
   pub there : t.at.shapes + t.index ≡ place
 
 -- the contract of seeking: the answer says the place's seat, and a seat is where it says
-pub record Seeks (s : List ℕ) (place : ℕ) (says : Sought) : Type 0 where
+pub record Seeks (s : List ℕ) (place : ℕ) (says : Out SeatAt) : Type 0 where
   pub said : said_sought s says ≡ seat_of s place
-  pub seat : (t : SeatAt) → says ≡ At t → Seated s place t
+  pub seat : (t : SeatAt) → says ≡ ok t → Seated s place t

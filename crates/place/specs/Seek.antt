@@ -6,8 +6,6 @@ use Rattle.answer.specs.Refusal.{because}
 use Rattle.answer.specs.Outcome.{Out, refused, ok, on}
 use Rattle.frame.specs.Frame.{Page, page_of, frame_of}
 use Rattle.place.specs.declared.seek.SeatAt.{SeatAt}
-use Rattle.place.specs.declared.seek.Sought.{Sought}
-use Rattle.place.specs.declared.seek.Sought.TheVariants.{At, Refused}
 
 -- where a shape sits: the page's number, the shape's index in the page, and the page
 pub record Seat : Type 0 where
@@ -29,6 +27,6 @@ abbrev pub seat_at : List ℕ → SeatAt → Seat
 seat_at s t = record { page = t.at.pages; index = t.index; held = page_of s t.page }
 
 -- what the code's answer says
-unfoldable pub said_sought : List ℕ → Sought → Out Seat
-said_sought s (At t) = ok (seat_at s t)
-said_sought s (Refused w) = refused w
+unfoldable pub said_sought : List ℕ → Out SeatAt → Out Seat
+said_sought s (ok t) = ok (seat_at s t)
+said_sought s (refused w) = refused w

@@ -9,7 +9,7 @@ use frame::cursor::PageAt;
 use frame::head::Head;
 use le::number::u32_at;
 
-// A shape's register and type.
+// A shape's register and type. The type is the byte of the file, any byte, as `row_at` promises: the page's contents are not judged.
 #[derive(Clone, Copy)]
 pub struct Row {
     pub register: u32,

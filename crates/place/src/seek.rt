@@ -15,15 +15,8 @@ pub struct SeatAt {
     pub index: usize,
 }
 
-// The seat of a place, or the refusal.
-#[derive(Clone, Copy)]
-pub enum Sought {
-    At(SeatAt),
-    Refused(Refusal),
-}
-
 // The seat of a place, sought from a cursor that the place does not lie before. The frame has passed.
-pub fn seek(s: &[u8], from: Cursor, place: usize) -> Sought
+pub fn seek(s: &[u8], from: Cursor, place: usize) -> Result<SeatAt, Refusal>
     requires { Onward s.now from × (from.shapes ≤ place) }
     ensures { Seeks s.now place result }
 {
@@ -31,7 +24,7 @@ pub fn seek(s: &[u8], from: Cursor, place: usize) -> Sought
     while !at_end(s, c) {
         let l = glance(s, c);
         if place < l.next.shapes {
-            return Sought::At(SeatAt {
+            return Ok(SeatAt {
                 at: c,
                 page: page_at(s, c),
                 index: place - c.shapes,
@@ -39,5 +32,5 @@ pub fn seek(s: &[u8], from: Cursor, place: usize) -> Sought
         }
         c = l.next;
     }
-    Sought::Refused(Refusal::because(PLACE))
+    Err(Refusal::because(PLACE))
 }

@@ -5,31 +5,19 @@ use Rattle.place.proofs.Tables.{row-there, row_is}
 use Rattle.place.proofs.row.row_in.Goals as goal
 
 pub overflow_mul-h : goal.overflow_mul-h
-overflow_mul-h c =
-    let st = c in
-    omega (arith, (row-there st.requires.0.0 st.args.b.now st.args.h st.args.i st.requires.0.1 st.requires.1).0)
+overflow_mul-h c = let r = row-there _ _ _ _ c.requires.0.1 c.requires.1 in omega (arith, r.0)
 
 pub overflow_add-h : goal.overflow_add-h
-overflow_add-h c =
-    let st = c in
-    omega (arith, (row-there st.requires.0.0 st.args.b.now st.args.h st.args.i st.requires.0.1 st.requires.1).0)
+overflow_add-h c = let r = row-there _ _ _ _ c.requires.0.1 c.requires.1 in omega (arith, r.0)
 
 pub u32_at-register-requires : goal.u32_at-register-requires
-u32_at-register-requires c = let st = c in (row-there st.requires.0.0 st.args.b.now st.args.h st.args.i st.requires.0.1 st.requires.1).0
+u32_at-register-requires c = (row-there _ _ _ _ c.requires.0.1 c.requires.1).0
 
 pub overflow_add-at : goal.overflow_add-at
-overflow_add-at c =
-    let st = c in
-    let r = row-there st.requires.0.0 st.args.b.now st.args.h st.args.i st.requires.0.1 st.requires.1 in
-    omega (arith, r.0, r.1)
+overflow_add-at c = let r = row-there _ _ _ _ c.requires.0.1 c.requires.1 in omega (arith, r.1)
 
 pub bounds-b-at : goal.bounds-b-at
-bounds-b-at c =
-    let st = c in
-    let r = row-there st.requires.0.0 st.args.b.now st.args.h st.args.i st.requires.0.1 st.requires.1 in
-    omega (arith, r.0, r.1)
+bounds-b-at c = let r = row-there _ _ _ _ c.requires.0.1 c.requires.1 in omega (arith, r.1)
 
 pub returns : goal.returns
-returns c =
-    let st = c in
-    row_is st.args.b.now st.args.h st.args.i _ _ st.requires.1 c.u32_at-register.ensures.0 refl
+returns c = row_is _ _ _ _ _ c.requires.1 c.u32_at-register.ensures.0 refl
