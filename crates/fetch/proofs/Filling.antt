@@ -14,12 +14,11 @@ use Rattle.answer.proofs.Outcomes.{met, unmet}
 use Rattle.shape.specs.Outline.{Shape}
 use Rattle.place.specs.declared.row.Row.{Row}
 use Rattle.place.specs.declared.span.Span.{Span}
-use Rattle.fetch.specs.declared.fetch.Fetched.TheVariants as fetched
 use Rattle.place.specs.Span.{shape_from}
 use Rattle.fetch.specs.Fetch.{Rooms, rooms_of, roomy, in_rooms, answer_of, list_of, Fetches}
 
 -- a refusal says so and leaves the rooms
-pub fetches-refused : {o : Out Shape} {dl dx dy : List ℕ} (w : Refusal) → o ≡ refused w → Fetches o dl dx dy (fetched.Refused w) dl dx dy
+pub fetches-refused : {o : Out Shape} {dl dx dy : List ℕ} (w : Refusal) → o ≡ refused w → Fetches o dl dx dy (refused w) dl dx dy
 unfolding answer_of list_of filled on
 fetches-refused w e = record { answer = rw e; lens_room = rw e; xs_room = rw e; ys_room = rw e }
 
@@ -29,7 +28,7 @@ pub fetches-shape : {o : Out Shape} {dl dx dy el ex ey : List ℕ} (sh : Shape) 
     → el ≡ sh.outline.lens ++ drop (length sh.outline.lens) dl
     → ex ≡ sh.outline.xs ++ drop (length sh.outline.xs) dx
     → ey ≡ sh.outline.ys ++ drop (length sh.outline.ys) dy
-    → Fetches o dl dx dy (fetched.Shape (record { register = sh.register; kind = sh.outline.kind; parts = parts; vertices = vertices })) el ex ey
+    → Fetches o dl dx dy (ok (record { register = sh.register; kind = sh.outline.kind; parts = parts; vertices = vertices })) el ex ey
 unfolding answer_of list_of filled on
 fetches-shape sh parts vertices e m n l x y = record { answer = rw (e, m, n); lens_room = rw e l; xs_room = rw e x; ys_room = rw e y }
 
@@ -89,22 +88,22 @@ module _ (r : Row) (p : Span) (lens xs ys dl dx dy : List ℕ) (fl : p.part_end 
   unfolding shape_from
   long-ys = long p.vertex p.vertex_end ys (omega (arith, fx, same))
 
-  pub put-lens : length dl < parts → Fetches (in_rooms rooms own) dl dx dy (fetched.Refused (because table.room)) dl dx dy
+  pub put-lens : length dl < parts → Fetches (in_rooms rooms own) dl dx dy (refused (because table.room)) dl dx dy
   put-lens h = fetches-refused (because table.room) (room-lens rooms own (omega (arith, long-lens)))
 
   module _ (a : parts ≤ length dl) where
-    pub put-xs : length dx < vertices → Fetches (in_rooms rooms own) dl dx dy (fetched.Refused (because table.room)) dl dx dy
+    pub put-xs : length dx < vertices → Fetches (in_rooms rooms own) dl dx dy (refused (because table.room)) dl dx dy
     put-xs h = fetches-refused (because table.room) (room-xs rooms own (omega (arith, long-lens)) (omega (arith, long-xs)))
 
     module _ (b : vertices ≤ length dx) where
-      pub put-ys : length dy < vertices → Fetches (in_rooms rooms own) dl dx dy (fetched.Refused (because table.room)) dl dx dy
+      pub put-ys : length dy < vertices → Fetches (in_rooms rooms own) dl dx dy (refused (because table.room)) dl dx dy
       put-ys h = fetches-refused (because table.room) (room-ys rooms own (omega (arith, long-lens)) (omega (arith, long-xs)) (omega (arith, long-ys)))
 
       pub put_all : (el ex ey : List ℕ) → vertices ≤ length dy
           → el ≡ take parts (drop p.part lens) ++ drop (length (take parts (drop p.part lens))) dl
           → ex ≡ take vertices (drop p.vertex xs) ++ drop (length (take vertices (drop p.vertex xs))) dx
           → ey ≡ take vertices (drop p.vertex ys) ++ drop (length (take vertices (drop p.vertex ys))) dy
-          → Fetches (in_rooms rooms own) dl dx dy (fetched.Shape (record { register = r.register; kind = r.kind; parts = parts; vertices = vertices })) el ex ey
+          → Fetches (in_rooms rooms own) dl dx dy (ok (record { register = r.register; kind = r.kind; parts = parts; vertices = vertices })) el ex ey
       unfolding shape_from
       put_all el ex ey c l x y =
           let z : in_rooms rooms own ≡ ok own = room-all rooms own (omega (arith, long-lens)) (omega (arith, long-xs)) (omega (arith, long-ys)) in

@@ -6,8 +6,7 @@ use Rattle.answer.specs.Refusal.{because}
 use Rattle.answer.specs.Outcome.{Out, refused, ok, need, on, in_page, filled}
 use Rattle.shape.specs.Outline.{Outline, Shape}
 use Rattle.page.specs.Contents.{contents_of}
-use Rattle.fetch.specs.declared.fetch.Fetched.{Fetched}
-use Rattle.fetch.specs.declared.fetch.Fetched.TheVariants as fetched
+use Rattle.fetch.specs.declared.fetch.Found.{Found}
 use Rattle.answer.specs.Lent.{LentMut, came_mut, left}
 use Rattle.place.specs.Nth.{shape_at}
 use Rattle.place.specs.Seek.{Seat, seat_of}
@@ -47,10 +46,10 @@ fetch_of s place r = on (shape_in s place) (in_rooms r)
 -- ---- what the call says and leaves
 
 -- its answer: register, type, how many part lengths and how many vertices it put in the rooms; or the refusal
-unfoldable pub answer_of : Out Shape → Fetched
-answer_of (refused w) = fetched.Refused w
+unfoldable pub answer_of : Out Shape → Out Found
+answer_of (refused w) = refused w
 answer_of (ok sh) =
-    fetched.Shape (record {
+    ok (record {
       register = sh.register;
       kind = sh.outline.kind;
       parts = length sh.outline.lens;
@@ -62,13 +61,13 @@ unfoldable pub list_of : (Outline → List ℕ) → Out Shape → Out (List ℕ)
 list_of f o = on o (λ sh. ok (f sh.outline))
 
 -- the contract: what it says, and each room as it leaves it, are those of the outcome o
-pub record Fetches (o : Out Shape) (lens xs ys : List ℕ) (says : Fetched) (lens-left xs-left ys-left : List ℕ) : Type 0 where
+pub record Fetches (o : Out Shape) (lens xs ys : List ℕ) (says : Out Found) (lens-left xs-left ys-left : List ℕ) : Type 0 where
   pub answer : says ≡ answer_of o
   pub lens_room : lens-left ≡ filled (list_of (λ x. x.lens) o) lens
   pub xs_room : xs-left ≡ filled (list_of (λ x. x.xs) o) xs
   pub ys_room : ys-left ≡ filled (list_of (λ x. x.ys) o) ys
 
 -- the contract, by the three lent rooms: o is the outcome with so much room
-abbrev pub FetchesIn : (Rooms → Out Shape) → LentMut → LentMut → LentMut → Fetched → Type 0
+abbrev pub FetchesIn : (Rooms → Out Shape) → LentMut → LentMut → LentMut → Out Found → Type 0
 FetchesIn o lens xs ys says =
     Fetches (o (rooms_of (came_mut lens) (came_mut xs) (came_mut ys))) (came_mut lens) (came_mut xs) (came_mut ys) says (left lens) (left xs) (left ys)

@@ -8,12 +8,12 @@ ghost use Rattle.fetch.specs.Fetch.{shape_of, in_rooms, FetchesIn};
 ghost use Rattle.fetch.specs.Ready.{Lies};
 ghost use Rattle.place.specs.Seek.{seat_at};
 
-use crate::fetch::{Fetched, Found};
+use crate::fetch::Found;
 use answer::Refusal;
-use answer::limits::{MOST_PAGE_SHAPES, MOST_VERTICES};
 use answer::table::ROOM;
-use le::run::{copy_u16s, copy_u64s};
-use page::open::{Opened, open};
+use le::run::copy_to_start;
+use page::open::open;
+use page::scratch::Scratch;
 use place::row::{Row, row_at};
 use place::seek::SeatAt;
 use place::span::{Span, span_of};
@@ -28,7 +28,7 @@ fn put_shape(
     lens: &mut [u16],
     xs: &mut [u64],
     ys: &mut [u64],
-) -> Fetched
+) -> Result<Found, Refusal>
     requires { Lies p page_lens.now page_xs.now page_ys.now }
     ensures { FetchesIn (λ k. in_rooms k (shape_from r p page_lens.now page_xs.now page_ys.now)) lens xs ys result }
 {
@@ -39,18 +39,18 @@ fn put_shape(
     let parts = part_end - part;
     let vertices = vertex_end - vertex;
     if lens.len() < parts {
-        return Fetched::Refused(Refusal::because(ROOM));
+        return Err(Refusal::because(ROOM));
     }
     if xs.len() < vertices {
-        return Fetched::Refused(Refusal::because(ROOM));
+        return Err(Refusal::because(ROOM));
     }
     if ys.len() < vertices {
-        return Fetched::Refused(Refusal::because(ROOM));
+        return Err(Refusal::because(ROOM));
     }
-    copy_u16s(&page_lens[part..part_end], lens);
-    copy_u64s(&page_xs[vertex..vertex_end], xs);
-    copy_u64s(&page_ys[vertex..vertex_end], ys);
-    Fetched::Shape(Found {
+    copy_to_start(&page_lens[part..part_end], lens);
+    copy_to_start(&page_xs[vertex..vertex_end], xs);
+    copy_to_start(&page_ys[vertex..vertex_end], ys);
+    Ok(Found {
         register: r.register,
         kind: r.kind,
         parts,
@@ -65,41 +65,26 @@ pub(crate) fn opened(
     lens: &mut [u16],
     xs: &mut [u64],
     ys: &mut [u64],
-) -> Fetched
+) -> Result<Found, Refusal>
     requires within { Within t.at }
     requires at_value { next_of s.now t.at ≡ ok (page t.page) }
     requires index_lt_g { t.index < t.page.head.g }
     ensures { FetchesIn (λ k. on (shape_of (seat_at s.now t)) (in_rooms k)) lens xs ys result }
 {
-    let mut counts = [0u16; MOST_PAGE_SHAPES];
-    let mut page_lens = [0u16; MOST_VERTICES];
-    let mut page_xs = [0u64; MOST_VERTICES];
-    let mut page_ys = [0u64; MOST_VERTICES];
-    match open(
-        s,
-        t.at,
-        &mut counts,
-        &mut page_lens,
-        &mut page_xs,
-        &mut page_ys,
-    ) {
-        Opened::Refused(w) => Fetched::Refused(w),
-        Opened::Page(p) => {
-            let g = p.head.g;
-            let m = p.head.p;
-            let v = p.head.v;
-            let r = row_at(s, p, t.index);
-            let q = span_of(&counts[..g], &page_lens[..m], t.index);
-            put_shape(
-                r,
-                q,
-                &page_lens[..m],
-                &page_xs[..v],
-                &page_ys[..v],
-                lens,
-                xs,
-                ys,
-            )
-        }
-    }
+    let mut scratch = Scratch::new();
+    let p = open(s, t.at, &mut scratch)?;
+    let r = row_at(s, p, t.index);
+    let v = p.head.v;
+    let page_lens = &scratch.lens[..p.head.p];
+    let q = span_of(&scratch.counts[..p.head.g], page_lens, t.index);
+    put_shape(
+        r,
+        q,
+        page_lens,
+        &scratch.xs[..v],
+        &scratch.ys[..v],
+        lens,
+        xs,
+        ys,
+    )
 }

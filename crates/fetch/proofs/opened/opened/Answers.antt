@@ -1,126 +1,67 @@
--- `fetch::opened::opened` opens the page of a seat and cuts the shape from its lists, which stand in the start of each scratch. Assumes nothing.
+-- `fetch::opened::opened` opens the page of a seat and cuts the shape from its lists, which stand in the start of the scratch's arrays. Assumes nothing.
 use mathlib.Core.Path.{◌∙◌}
-use native.Mathlib.Nat.{le_trans}
+use Prim.Native.Nat.{◌<◌}
 use native.Mathlib.Omega.{arith}
-use Rattle.frame.specs.Next.{part}
+use Rattle.answer.proofs.Outcomes.{handed-on}
+use Rattle.frame.proofs.Counts.{Limits}
 use Rattle.frame.proofs.Found.{page-is}
-use Rattle.page.proofs.Opening.{limits_of, first_of, opened-refused}
+use Rattle.page.proofs.Opening.{limits_of, opened-refused}
 use Rattle.fetch.specs.Fetch.{rooms_of}
 use Rattle.fetch.proofs.Filling.{fetches-refused}
 use Rattle.place.proofs.Spans.{span-parts, span-vertices}
 use Rattle.fetch.proofs.Opens.{seat-bad, seat-page, index-within, loaded-spans, loaded-vertices, loaded-shape}
+use Rattle.fetch.proofs.opened.opened.Goals.{In_ok-p}
 use Rattle.fetch.proofs.opened.opened.Goals as goal
+
+pub returns-in_err-p : goal.returns-in_err-p
+returns-in_err-p c =
+    rw (handed-on c.from_residual.ensures.1)
+    (fetches-refused _ (seat-bad _ _ _ (opened-refused _ _ _ _ c.«open».ensures c.args.t.page c.requires.at_value _ c.in_err-p.was)))
+
+-- what the head of the page that was opened says of its counts, and that the shape is one of the page's
+limits : (c : In_ok-p) → Limits c.in_ok-p.p.head.g c.in_ok-p.p.head.v c.in_ok-p.p.head.p
+limits c = limits_of _ _ _ (c.«open».ensures.lists _ c.in_ok-p.was).0
+
+within : (c : In_ok-p) → c.args.t.index < c.in_ok-p.p.head.g
+within c = index-within _ _ _ c.requires.at_value (c.«open».ensures.lists _ c.in_ok-p.was).0 c.requires.index_lt_g
 
 pub row_at-r-requires : goal.row_at-r-requires
 row_at-r-requires c =
-    let st = c in
-    let o = c.«open».ensures.lists c.in-Page.p c.in-Page.is in
-    let k = page-is st.args.s.now st.args.t.at c.in-Page.p o.0 in
-    (k.stands.fits, (st.args.t.at.edition, k.headed), index-within st.args.s.now st.args.t c.in-Page.p st.requires.at_value o.0 st.requires.index_lt_g)
+    let k = page-is _ _ _ (c.«open».ensures.lists _ c.in_ok-p.was).0 in
+    (k.stands.fits, (c.args.t.at.edition, k.headed), within c)
 
-pub slice_bounds-counts-end : goal.slice_bounds-counts-end
-slice_bounds-counts-end c =
-    let st = c in
-    let o = c.«open».ensures.lists c.in-Page.p c.in-Page.is in
-    let m = limits_of st.args.s.now st.args.t.at c.in-Page.p o.0 in
-    omega (arith, m.few, c.counts-2-1.given)
+pub shared_ref_as_front-page_lens : goal.shared_ref_as_front-page_lens
+shared_ref_as_front-page_lens c = let m = limits (goal.at.shared_ref_as_front-page_lens c).In_ok-p in omega (arith, m.parts, m.vertices)
 
-pub slice_bounds-span_of-end : goal.slice_bounds-span_of-end
-slice_bounds-span_of-end c =
-    let st = c in
-    let o = c.«open».ensures.lists c.in-Page.p c.in-Page.is in
-    let m = limits_of st.args.s.now st.args.t.at c.in-Page.p o.0 in
-    first_of c.in-Page.p.head.g 256 _ c.counts-2-1.given m.few
-
-pub slice_bounds-page_lens-end : goal.slice_bounds-page_lens-end
-slice_bounds-page_lens-end c =
-    let st = c in
-    let o = c.«open».ensures.lists c.in-Page.p c.in-Page.is in
-    let m = limits_of st.args.s.now st.args.t.at c.in-Page.p o.0 in
-    omega (arith, le_trans m.parts m.vertices, c.page_lens-2-1.given)
-
-pub slice_bounds-span_of-end-in-Page : goal.slice_bounds-span_of-end-in-Page
-slice_bounds-span_of-end-in-Page c =
-    let st = c in
-    let o = c.«open».ensures.lists c.in-Page.p c.in-Page.is in
-    let m = limits_of st.args.s.now st.args.t.at c.in-Page.p o.0 in
-    first_of c.in-Page.p.head.p 2048 _ c.page_lens-2-1.given (le_trans m.parts m.vertices)
+pub shared_ref_as_front-span_of : goal.shared_ref_as_front-span_of
+shared_ref_as_front-span_of c = (limits (goal.at.shared_ref_as_front-span_of c).In_ok-p).few
 
 pub span_of-q-requires : goal.span_of-q-requires
 span_of-q-requires c =
-    let st = c in
-    let o = c.«open».ensures.lists c.in-Page.p c.in-Page.is in
-    let m = limits_of st.args.s.now st.args.t.at c.in-Page.p o.0 in
-    let r = loaded-spans c.in-Page.p.head (part st.args.s.now c.in-Page.p.body c.in-Page.p.len) _ _ _ _ o.1 st.args.t.index (index-within st.args.s.now st.args.t c.in-Page.p st.requires.at_value o.0 st.requires.index_lt_g) m.vertices in
+    let i = (goal.at.span_of-q-requires c).In_ok-p in
+    let r = loaded-spans _ _ _ _ _ _ (c.«open».ensures.lists _ c.in_ok-p.was).1 _ (within i) (limits i).vertices in
     record { i_in_bounds = r.0; counts_value = r.1; lens_len_bound = (r.2, r.3) }
 
-pub slice_bounds-page_lens-end-in-Page : goal.slice_bounds-page_lens-end-in-Page
-slice_bounds-page_lens-end-in-Page c =
-    let st = c in
-    let o = c.«open».ensures.lists c.in-Page.p c.in-Page.is in
-    let m = limits_of st.args.s.now st.args.t.at c.in-Page.p o.0 in
-    omega (arith, le_trans m.parts m.vertices, c.page_lens-2-1.given)
+pub shared_ref_as_front-put_shape : goal.shared_ref_as_front-put_shape
+shared_ref_as_front-put_shape c = (limits (goal.at.shared_ref_as_front-put_shape c).In_ok-p).vertices
 
-pub slice_bounds-put_shape-end : goal.slice_bounds-put_shape-end
-slice_bounds-put_shape-end c =
-    let st = c in
-    let o = c.«open».ensures.lists c.in-Page.p c.in-Page.is in
-    let m = limits_of st.args.s.now st.args.t.at c.in-Page.p o.0 in
-    first_of c.in-Page.p.head.p 2048 _ c.page_lens-2-1.given (le_trans m.parts m.vertices)
-
-pub slice_bounds-page_xs-end : goal.slice_bounds-page_xs-end
-slice_bounds-page_xs-end c =
-    let st = c in
-    let o = c.«open».ensures.lists c.in-Page.p c.in-Page.is in
-    let m = limits_of st.args.s.now st.args.t.at c.in-Page.p o.0 in
-    omega (arith, m.vertices, c.page_xs-2-1.given)
-
-pub slice_bounds-put_shape-end-in-Page : goal.slice_bounds-put_shape-end-in-Page
-slice_bounds-put_shape-end-in-Page c =
-    let st = c in
-    let o = c.«open».ensures.lists c.in-Page.p c.in-Page.is in
-    let m = limits_of st.args.s.now st.args.t.at c.in-Page.p o.0 in
-    first_of c.in-Page.p.head.v 2048 _ c.page_xs-2-1.given m.vertices
-
-pub slice_bounds-page_ys-end : goal.slice_bounds-page_ys-end
-slice_bounds-page_ys-end c =
-    let st = c in
-    let o = c.«open».ensures.lists c.in-Page.p c.in-Page.is in
-    let m = limits_of st.args.s.now st.args.t.at c.in-Page.p o.0 in
-    omega (arith, m.vertices, c.page_ys-2-1.given)
-
-pub slice_bounds-put_shape-end-in-Page-2 : goal.slice_bounds-put_shape-end-in-Page-2
-slice_bounds-put_shape-end-in-Page-2 c =
-    let st = c in
-    let o = c.«open».ensures.lists c.in-Page.p c.in-Page.is in
-    let m = limits_of st.args.s.now st.args.t.at c.in-Page.p o.0 in
-    first_of c.in-Page.p.head.v 2048 _ c.page_ys-2-1.given m.vertices
+pub shared_ref_as_front-put_shape-2 : goal.shared_ref_as_front-put_shape-2
+shared_ref_as_front-put_shape-2 c = (limits (goal.at.shared_ref_as_front-put_shape-2 c).In_ok-p).vertices
 
 pub put_shape-requires : goal.put_shape-requires
 put_shape-requires c =
-    let st = c in
-    let o = c.«open».ensures.lists c.in-Page.p c.in-Page.is in
-    let m = limits_of st.args.s.now st.args.t.at c.in-Page.p o.0 in
-    let i = st.args.t.index in
-    let r = loaded-spans c.in-Page.p.head (part st.args.s.now c.in-Page.p.body c.in-Page.p.len) _ _ _ _ o.1 i (index-within st.args.s.now st.args.t c.in-Page.p st.requires.at_value o.0 st.requires.index_lt_g) m.vertices in
-    let v = loaded-vertices c.in-Page.p.head (part st.args.s.now c.in-Page.p.body c.in-Page.p.len) _ _ _ _ o.1 in
-    let x = span-parts _ _ i r.0 r.1 in
-    let y = span-vertices _ _ i r.0 r.1 in
+    let i = (goal.at.put_shape-requires c).In_ok-p in
+    let o = (c.«open».ensures.lists _ c.in_ok-p.was).1 in
+    let r = loaded-spans _ _ _ _ _ _ o _ (within i) (limits i).vertices in
+    let v = loaded-vertices _ _ _ _ _ _ o in
+    let x = span-parts _ _ _ r.0 r.1 in
+    let y = span-vertices _ _ _ r.0 r.1 in
     rw c.span_of-q.ensures (record { parts = x.0; lens_reach = x.1; vertices = y.0; xs_reach = rw (← v.0) y.1; same = v.1 })
 
-pub returns-in-Refused : goal.returns-in-Refused
-returns-in-Refused c =
-    let st = c in
-    let open' = c.«open» in
-    fetches-refused c.in-Refused.w (seat-bad _ _ c.in-Refused.w (opened-refused _ _ _ _ _ _ _ open'.ensures st.args.t.page st.requires.at_value c.in-Refused.w c.in-Refused.is))
-
-pub returns-in-Page : goal.returns-in-Page
-returns-in-Page c =
-    let st = c in
-    let o = c.«open».ensures.lists c.in-Page.p c.in-Page.is in
-    let row_at = c.row_at-r in
-    let Span-of = c.span_of-q in
-    let put-shape = c.put_shape in
-    let t = st.args.t in
-    rw (seat-page st.args.s.now t c.in-Page.p (rooms_of st.args.lens.now st.args.xs.now st.args.ys.now) st.requires.at_value o.0
-    ∙ loaded-shape c.in-Page.p.head (part st.args.s.now c.in-Page.p.body c.in-Page.p.len) _ _ _ _ o.1 t.at.pages t.index row_at.result Span-of.result (rooms_of st.args.lens.now st.args.xs.now st.args.ys.now) (index-within st.args.s.now st.args.t c.in-Page.p st.requires.at_value o.0 st.requires.index_lt_g) row_at.ensures Span-of.ensures) put-shape.ensures
+pub returns : goal.returns
+returns c =
+    let i = (goal.at.returns c).In_ok-p in
+    let o = c.«open».ensures.lists _ c.in_ok-p.was in
+    let r = rooms_of c.args.lens.now c.args.xs.now c.args.ys.now in
+    rw (seat-page _ _ _ r c.requires.at_value o.0 ∙ loaded-shape _ _ _ _ _ _ o.1 _ _ _ _ r (within i) c.row_at-r.ensures c.span_of-q.ensures)
+    c.put_shape.ensures
