@@ -2,16 +2,13 @@
 use Prim.Native.Nat.{ℕ}
 use mathlib.Core.Path.{◌≡◌, sym, ap₂, ◌∙◌}
 use mathlib.Core.List.{List}
-use Rattle.answer.specs.declared.Verdict.{Verdict}
 use Rattle.answer.specs.Outcome.{Out}
-use Rattle.answer.proofs.Rules.{judged-one}
 use Rattle.writer.specs.declared.Writer.{Writer}
 use Rattle.writer.specs.declared.Stepped.{Stepped}
 use Rattle.writer.specs.State.{Added, Steps}
 
-abbrev answer : Writer → Verdict → Stepped
+abbrev answer : Writer → Out (Unit {0}) → Stepped
 answer w v = record { writer = w; verdict = v }
 
 pub determined : {o : Out Added} {st : Writer} {d : List ℕ} {r r' : Stepped} {e e' : List ℕ} → Steps o st d r e → Steps o st d r' e' → (r ≡ r') × (e ≡ e')
-determined {r = r} {r' = r'} p q =
-    (ap₂ answer (p.state ∙ sym q.state) (judged-one r.verdict r'.verdict (p.verdict ∙ sym q.verdict)), p.buffer ∙ sym q.buffer)
+determined p q = (ap₂ answer (p.state ∙ sym q.state) (p.verdict ∙ sym q.verdict), p.buffer ∙ sym q.buffer)

@@ -10,8 +10,6 @@ use lib.Seq.{sets, sets-eq, take_all, drop-drop}
 use borrow.Author.Tests.{leb-true, leb-false, le-leb, lt-leb}
 use borrow.Rule.Slice.PartMut.{put_mid, put_same, mid_len}
 use Rattle.answer.specs.declared.Refusal.{Refusal}
-use Rattle.answer.specs.declared.Filled.TheVariants.{Start, Refused}
-use Rattle.answer.specs.declared.Verdict.TheVariants as verdict
 use Rattle.answer.specs.Table as table
 use Rattle.answer.specs.Refusal.{because}
 use Rattle.answer.specs.Outcome.{Out, refused, ok, need, on, Fills}
@@ -123,15 +121,15 @@ module _ (st : Writer) (d : List ℕ) (i : Handed) (from : ℕ) (ef : from ≡ s
       (λ (bytes : List ℕ) (e : page_written the_edition i ≡ ok bytes). ap (leb (length bytes)) length_rest ∙ fits-same st.position (length d) (length bytes) (page-some i bytes e))
 
   -- what the block refuses the step refuses
-  pub page-refused : (w : Refusal) (left : List ℕ) → Fills (page_block_of the_edition (length (take (length d - from) (drop from d))) i) (take (length d - from) (drop from d)) (Refused w) left
-      → Steps (page_step_of st (length d) i) st d (record { writer = st; verdict = verdict.Refused w }) (put_mid from (length d - from) d left)
+  pub page-refused : (w : Refusal) (left : List ℕ) → Fills (page_block_of the_edition (length (take (length d - from) (drop from d))) i) (take (length d - from) (drop from d)) (refused w) left
+      → Steps (page_step_of st (length d) i) st d (record { writer = st; verdict = refused w }) (put_mid from (length d - from) d left)
   page-refused w left f =
       let p = filled-refused (page_block_of the_edition (length rest) i) rest w left f in
       let q : put_mid from (length d - from) d left ≡ d = ap (put_mid from (length d - from) d) p.1 ∙ put_same from (length d - from) d in
-      subst (λ (e : List ℕ). Steps (page_step_of st (length d) i) st d (record { writer = st; verdict = verdict.Refused w }) e) (sym q)
+      subst (λ (e : List ℕ). Steps (page_step_of st (length d) i) st d (record { writer = st; verdict = refused w }) e) (sym q)
       (steps-refused w (by-block ∙ on-refused _ _ w p.0))
 
-  module _ (n : ℕ) (left : List ℕ) (f : Fills (page_block_of the_edition (length (take (length d - from) (drop from d))) i) (take (length d - from) (drop from d)) (Start n) left) where
+  module _ (n : ℕ) (left : List ℕ) (f : Fills (page_block_of the_edition (length (take (length d - from) (drop from d))) i) (take (length d - from) (drop from d)) (ok n) left) where
     -- a block that was put fits behind the position
     pub page-fits : (st.position + n ≤ length d) × (length i.registers ≤ 256)
     page-fits =
@@ -145,7 +143,7 @@ module _ (st : Writer) (d : List ℕ) (i : Handed) (from : ℕ) (ef : from ≡ s
 
     -- and the step is taken
     pub page-taken : Steps (page_step_of st (length d) i) st d
-        (record { writer = state_with (st.position + n) (st.pages + 1) (st.shapes + length i.registers) false; verdict = verdict.Holds })
+        (record { writer = state_with (st.position + n) (st.pages + 1) (st.shapes + length i.registers) false; verdict = ok tt })
         (put_mid from (length d - from) d left)
     unfolding next
     page-taken =
@@ -154,5 +152,5 @@ module _ (st : Writer) (d : List ℕ) (i : Handed) (from : ℕ) (ef : from ≡ s
         let s : from ≡ st.position = ef ∙ start-at st.position (length d) (omega arith) in
         let q : put_mid from (length d - from) d left ≡ sets d st.position p.0 =
         rest_put d p.0 left from n p.2 (omega (arith, s, fit)) p.3 ∙ ap (λ (m : ℕ). sets d m p.0) s in
-        subst (λ (m : ℕ). Steps (page_step_of st (length d) i) st d (record { writer = state_with (st.position + m) (st.pages + 1) (st.shapes + length i.registers) false; verdict = verdict.Holds }) (put_mid from (length d - from) d left)) (sym p.2)
+        subst (λ (m : ℕ). Steps (page_step_of st (length d) i) st d (record { writer = state_with (st.position + m) (st.pages + 1) (st.shapes + length i.registers) false; verdict = ok tt }) (put_mid from (length d - from) d left)) (sym p.2)
         (steps-ok (added (next p.0) st.position p.0) _ (by-block ∙ on_value _ _ p.0 p.1) q)

@@ -7,7 +7,7 @@ use Rattle.answer.specs.Lent.{LentMut, came_mut, left}
 use Rattle.answer.specs.Table as table
 use Rattle.answer.specs.Refusal.{because}
 use Rattle.answer.specs.Outcome.{Out, refused, ok, need, on}
-use Rattle.answer.specs.Rule.{rule, judged, passed}
+use Rattle.answer.specs.Rule.{rule, passed}
 use Rattle.le.specs.Number.{bytes_of}
 use Rattle.block.specs.Kinds as kinds
 use Rattle.frame.specs.Layout.{the_edition}
@@ -87,7 +87,7 @@ buffer_after (ok a) d = sets d a.from a.bytes
 
 -- the contract of a step: what it says, the state it hands back and the buffer as it leaves it are those of the outcome o
 pub record Steps (o : Out Added) (st : Writer) (d : List ℕ) (r : Stepped) (left : List ℕ) : Type 0 where
-  pub verdict : judged r.verdict ≡ passed o
+  pub verdict : r.verdict ≡ passed o
   pub state : r.writer ≡ state_after o st
   pub buffer : left ≡ buffer_after o d
 

@@ -3,20 +3,22 @@
 
 ghost use Rattle.std.specs.Prelude.{◌≡◌, length};
 ghost use Rattle.answer.specs.Refusal.{because};
-ghost use Rattle.answer.specs.declared.Verdict.TheVariants as verdict;
-ghost use Rattle.pageblock.specs.Body.{handed};
+ghost use Rattle.answer.specs.Outcome.{refused};
+ghost use Rattle.pageblock.specs.Body.{handed_of};
 ghost use Rattle.writer.specs.State.{open_of, page_step_of, close_of, StepsIn, start_of};
 
 use crate::blocks::{END_BLOCK, FIRST_BLOCK, put_end, put_first};
+use answer::Refusal;
 use answer::limits::{MOST_PAGES, MOST_SHAPES};
 use answer::table::{CLOSED, MANY, ROOM};
-use answer::{Filled, Refusal, Verdict};
 use frame::layout::EDITION;
+use pageblock::lists::PageLists;
 use pageblock::page_block::page_block;
 
 mod blocks;
 
-// The state: the place of the next block, how many pages and shapes stand before it, and whether the end block does.
+// The state: the place of the next block, how many pages and shapes stand before it, and whether the end block does. One type for open and closed:
+// a step promises to refuse a closed one, and C hands in any.
 #[derive(Clone, Copy)]
 pub struct Writer {
     pub position: usize,
@@ -25,31 +27,30 @@ pub struct Writer {
     pub closed: bool,
 }
 
-// The answer of a step: the state handed back, and whether the step was taken or refused.
+// The answer of a step: the state handed back, and whether the step was taken or refused. The state goes in and is handed back by value, also where
+// it is refused: a form that is laid down (docs/FORMS.md).
 #[derive(Clone, Copy)]
 pub struct Stepped {
     pub writer: Writer,
-    pub verdict: Verdict,
+    pub verdict: Result<(), Refusal>,
 }
 
 // Refused by a number, with the state as it came.
 fn refused(st: Writer, number: u8) -> Stepped
-    ensures { result ≡ record { writer = st; verdict = verdict.Refused (because number) } }
+    ensures { result ≡ record { writer = st; verdict = refused (because number) } }
 {
     Stepped {
         writer: st,
-        verdict: Verdict::Refused(Refusal::because(number)),
+        verdict: Err(Refusal::because(number)),
     }
 }
 
 // Where the part of a buffer that a page may fill starts.
+#[tactic(auto, unfolding(crate::specs::State::start_of))]
 fn start_of(position: usize, room: usize) -> usize
     ensures { result ≡ start_of position room }
 {
-    if position <= room {
-        return position;
-    }
-    room
+    position.min(room)
 }
 
 impl Writer {
@@ -69,22 +70,13 @@ impl Writer {
                 shapes: 0,
                 closed: false,
             },
-            verdict: Verdict::Holds,
+            verdict: Ok(()),
         }
     }
 
     // The block of a page at the position. Where that lies past the buffer, the page finds no room.
-    pub fn page(
-        self,
-        d: &mut [u8],
-        registers: &[u32],
-        types: &[u8],
-        counts: &[u16],
-        lens: &[u16],
-        xs: &[u64],
-        ys: &[u64],
-    ) -> Stepped
-        ensures { StepsIn (page_step_of self (length d.old) (handed registers types counts lens xs ys)) self d result }
+    pub fn page(self, d: &mut [u8], lists: PageLists) -> Stepped
+        ensures { StepsIn (page_step_of self (length d.old) (handed_of lists.entry)) self d result }
     {
         let position = self.position;
         let pages = self.pages;
@@ -99,28 +91,19 @@ impl Writer {
             return refused(self, MANY);
         }
         let from = start_of(position, d.len());
-        match page_block(
-            EDITION,
-            &mut d[from..],
-            registers,
-            types,
-            counts,
-            lens,
-            xs,
-            ys,
-        ) {
-            Filled::Refused(w) => Stepped {
+        match page_block(EDITION, &mut d[from..], lists) {
+            Err(w) => Stepped {
                 writer: self,
-                verdict: Verdict::Refused(w),
+                verdict: Err(w),
             },
-            Filled::Start(n) => Stepped {
+            Ok(n) => Stepped {
                 writer: Writer {
                     position: position + n,
                     pages: pages + 1,
-                    shapes: shapes + registers.len() as u32,
+                    shapes: shapes + lists.registers.len() as u32,
                     closed: false,
                 },
-                verdict: Verdict::Holds,
+                verdict: Ok(()),
             },
         }
     }
@@ -155,7 +138,7 @@ impl Writer {
                 shapes,
                 closed: true,
             },
-            verdict: Verdict::Holds,
+            verdict: Ok(()),
         }
     }
 }

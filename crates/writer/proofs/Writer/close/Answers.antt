@@ -2,7 +2,6 @@
 use Prim.Native.Nat.{◌+◌}
 use mathlib.Core.Bool.{true}
 use native.Mathlib.Omega.{arith}
-use lib.ListN.{length}
 use Rattle.frame.specs.Whole.{end_block}
 use Rattle.writer.specs.State.{state_with}
 use Rattle.writer.proofs.Stepping.{steps-refused, steps-ok}
@@ -10,38 +9,32 @@ use Rattle.writer.proofs.Ways.{added, close-closed, close-many, close-shapes, cl
 use Rattle.writer.proofs.Writer.close.Goals as goal
 
 pub returns-then-self : goal.returns-then-self
-returns-then-self c = let a = c.args in rw c.refused.ensures (steps-refused _ (close-closed a.self _ c.if-self.true))
+returns-then-self c = rw c.refused.ensures (steps-refused _ (close-closed _ _ c.if-self.true))
 
 pub returns-then-pages-gt-MOST_PAGES : goal.returns-then-pages-gt-MOST_PAGES
 returns-then-pages-gt-MOST_PAGES c =
-    let a = c.args in
-    rw c.refused-then-pages-gt-MOST_PAGES.ensures (steps-refused _ (close-many a.self _ c.if-self.false c.if-pages-gt-MOST_PAGES.true))
+    rw c.refused-then-pages-gt-MOST_PAGES.ensures (steps-refused _ (close-many _ _ c.if-self.false c.if-pages-gt-MOST_PAGES.true))
 
 pub returns-then-shapes-gt-MOST_SHAPES : goal.returns-then-shapes-gt-MOST_SHAPES
 returns-then-shapes-gt-MOST_SHAPES c =
-    let a = c.args in
-    rw c.refused-then-shapes-gt-MOST_SHAPES.ensures (steps-refused _ (close-shapes a.self _ c.if-self.false c.if-pages-gt-MOST_PAGES.false c.if-shapes-gt-MOST_SHAPES.true))
+    rw c.refused-then-shapes-gt-MOST_SHAPES.ensures
+    (steps-refused _ (close-shapes _ _ c.if-self.false c.if-pages-gt-MOST_PAGES.false c.if-shapes-gt-MOST_SHAPES.true))
 
 pub returns-then-d-position : goal.returns-then-d-position
 returns-then-d-position c =
-    let if1 = c.if-self in
-    let a = c.args in
-    rw c.refused-then-d-position.ensures (steps-refused _ (close-room a.self (length a.d.now) if1.false c.if-pages-gt-MOST_PAGES.false c.if-shapes-gt-MOST_SHAPES.false (omega (arith, c.if-d-position.true))))
+    rw c.refused-then-d-position.ensures
+    (steps-refused _ (close-room _ _ c.if-self.false c.if-pages-gt-MOST_PAGES.false c.if-shapes-gt-MOST_SHAPES.false (omega (arith, c.if-d-position.true))))
 
 pub returns-then-d-position-lt-END_BLOCK : goal.returns-then-d-position-lt-END_BLOCK
 returns-then-d-position-lt-END_BLOCK c =
-    let if1 = c.if-self in
-    let if2 = c.if-pages-gt-MOST_PAGES in
-    let a = c.args in
-    rw c.refused-then-d-position-lt-END_BLOCK.ensures (steps-refused _ (close-room a.self (length a.d.now) if1.false if2.false c.if-shapes-gt-MOST_SHAPES.false (omega (arith, c.if-d-position-lt-END_BLOCK.true, c.if-d-position.false))))
+    rw c.refused-then-d-position-lt-END_BLOCK.ensures
+    (steps-refused _
+    (close-room _ _ c.if-self.false c.if-pages-gt-MOST_PAGES.false c.if-shapes-gt-MOST_SHAPES.false
+    (omega (arith, c.if-d-position-lt-END_BLOCK.true, c.if-d-position.false))))
 
 pub returns : goal.returns
 returns c =
-    let if1 = c.if-self in
-    let if2 = c.if-pages-gt-MOST_PAGES in
-    let if3 = c.if-shapes-gt-MOST_SHAPES in
-    let if4 = c.if-d-position in
-    let if5 = c.if-d-position-lt-END_BLOCK in
-    let a = c.args in
-    let w = a.self in
-    steps-ok (added (state_with (w.position + 14) w.pages w.shapes true) w.position (end_block w.pages w.shapes)) _ (close-ok w (length a.d.now) if1.false if2.false if3.false (omega (arith, if5.false, if4.false))) c.put_end.ensures
+    let w = c.args.self in
+    steps-ok (added (state_with (w.position + 14) w.pages w.shapes true) w.position (end_block w.pages w.shapes)) _
+    (close-ok w _ c.if-self.false c.if-pages-gt-MOST_PAGES.false c.if-shapes-gt-MOST_SHAPES.false
+    (omega (arith, c.if-d-position-lt-END_BLOCK.false, c.if-d-position.false))) c.put_end.ensures

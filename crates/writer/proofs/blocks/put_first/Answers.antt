@@ -3,7 +3,4 @@ use Rattle.writer.proofs.Ends.{first-put}
 use Rattle.writer.proofs.blocks.put_first.Goals as goal
 
 pub returns : goal.returns
-returns c =
-    let args = c.args in
-    let put-head = c.put_head in
-    first-put args.d.now _ _ put-head.ensures c.put_u16.ensures
+returns c = first-put _ _ _ c.put_head.ensures c.put_u16.ensures
