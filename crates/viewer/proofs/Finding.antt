@@ -14,8 +14,6 @@ use Rattle.answer.proofs.Outcomes.{never, refused-inj, on-ok}
 use Rattle.shape.specs.Outline.{Shape}
 use Rattle.answer.proofs.Orders.{on_value}
 use Rattle.fetch.specs.declared.fetch.Found.{Found}
-use Rattle.fetch.specs.declared.fetch.Fetched.{Fetched}
-use Rattle.fetch.specs.declared.fetch.Fetched.TheVariants as fetched
 use Rattle.fetch.specs.Fetch.{shape_in, Rooms, rooms_of, roomy, in_rooms, fetch_of, answer_of, list_of, Fetches}
 use Rattle.viewer.specs.Word.{word_of, Told}
 use Rattle.viewer.specs.Fetch.{room_for_shape, fetch_call, vertices, about_words, Shown}
@@ -27,12 +25,12 @@ found f = f.register ∷ f.kind ∷ f.parts ∷ f.vertices ∷ []
 
 -- ---- what an answer says of the outcome
 
-said-refused : (o : Out Shape) (w : Refusal) → answer_of o ≡ fetched.Refused w → o ≡ refused w
+said-refused : (o : Out Shape) (w : Refusal) → answer_of o ≡ refused w → o ≡ refused w
 unfolding answer_of
 said-refused (refused v) w e = cc
 said-refused (ok sh) w e = let z : ◌≡◌ {A = ℕ} 0 1 = cc in absurd (omega arith)
 
-said-shape : (o : Out Shape) (f : Found) → answer_of o ≡ fetched.Shape f → (sh : Shape) × (o ≡ ok sh) × (f.vertices ≡ vertices sh) × (found f ≡ about_words sh)
+said-shape : (o : Out Shape) (f : Found) → answer_of o ≡ ok f → (sh : Shape) × (o ≡ ok sh) × (f.vertices ≡ vertices sh) × (found f ≡ about_words sh)
 unfolding answer_of vertices about_words
 said-shape (refused w) f e = let z : ◌≡◌ {A = ℕ} 0 1 = cc in absurd (omega arith)
 said-shape (ok sh) f e = (sh, refl, cc, cc)
@@ -54,12 +52,12 @@ same-refused (refused v) r w e = ap refused (refused-inj e)
 same-refused (ok sh) r w e = ap refused (need-refused (roomy r sh.outline) (because table.room) w sh e)
 
 -- an answer of the fetch, with whatever room
-module _ (s : List ℕ) (place : ℕ) (r : Rooms) (y : Fetched) (q : y ≡ answer_of (fetch_of s place r)) where
-  pub bare-refused : (w : Refusal) (x : ℕ) → y ≡ fetched.Refused w → x ≡ word_of (refused w) → x ≡ word_of (bare (shape_in s place))
+module _ (s : List ℕ) (place : ℕ) (r : Rooms) (y : Out Found) (q : y ≡ answer_of (fetch_of s place r)) where
+  pub bare-refused : (w : Refusal) (x : ℕ) → y ≡ refused w → x ≡ word_of (refused w) → x ≡ word_of (bare (shape_in s place))
   unfolding fetch_of
   bare-refused w x e p = p ∙ ap word_of (sym (same-refused (shape_in s place) r w (said-refused (fetch_of s place r) w (sym q ∙ e))))
 
-  pub bare-shape : (f : Found) (x : ℕ) → y ≡ fetched.Shape f → x ≡ word_of (refused (because table.room)) → x ≡ word_of (bare (shape_in s place))
+  pub bare-shape : (f : Found) (x : ℕ) → y ≡ ok f → x ≡ word_of (refused (because table.room)) → x ≡ word_of (bare (shape_in s place))
   unfolding fetch_of
   bare-shape f x e p =
       let z = said-shape (fetch_of s place r) f (sym q ∙ e) in
@@ -96,14 +94,14 @@ module _ (s : List ℕ) (place : ℕ) (da dl dx dy : List ℕ) where
   pub shown-short : (x : ℕ) → length da < 4 → x ≡ word_of (bare (shape_in s place)) → Shown call da dl dx dy x da dl dx dy
   shown-short x h p = rw (short h) (shown-bare (shape_in s place) x p)
 
-  module _ (h : 4 ≤ length da) (y : Fetched) (el ex ey : List ℕ) (q : Fetches (fetch_of s place rooms) dl dx dy y el ex ey) where
+  module _ (h : 4 ≤ length da) (y : Out Found) (el ex ey : List ℕ) (q : Fetches (fetch_of s place rooms) dl dx dy y el ex ey) where
     told-rest : (x : ℕ) (ea : List ℕ) → Told (fetch_of s place rooms) vertices about_words da x ea → Shown call da dl dx dy x ea el ex ey
     told-rest x ea t = rw (enough h) (record { told = t; lens_room = q.lens_room; xs_room = q.xs_room; ys_room = q.ys_room })
 
-    pub shown-unfound : (w : Refusal) (x : ℕ) → y ≡ fetched.Refused w → x ≡ word_of (refused w) → Shown call da dl dx dy x da el ex ey
+    pub shown-unfound : (w : Refusal) (x : ℕ) → y ≡ refused w → x ≡ word_of (refused w) → Shown call da dl dx dy x da el ex ey
     shown-unfound w x e p = told-rest x da (told-refused w x (said-refused (fetch_of s place rooms) w (sym q.answer ∙ e)) p)
 
-    pub shown-found : (f : Found) (ea : List ℕ) → y ≡ fetched.Shape f → ea ≡ found f ++ drop 4 da → Shown call da dl dx dy f.vertices ea el ex ey
+    pub shown-found : (f : Found) (ea : List ℕ) → y ≡ ok f → ea ≡ found f ++ drop 4 da → Shown call da dl dx dy f.vertices ea el ex ey
     unfolding about_words
     shown-found f ea e p =
         let z = said-shape (fetch_of s place rooms) f (sym q.answer ∙ e) in

@@ -1,15 +1,13 @@
 -- The writer's steps through four words. Assumes nothing.
 use Prim.Native.Nat.{ℕ, ◌≤◌, ◌<◌}
-use mathlib.Core.Path.{◌≡◌, refl, ap, ◌∙◌}
+use mathlib.Core.Path.{◌≡◌, refl, ◌∙◌}
 use mathlib.Core.List.{List, ◌++◌}
 use lib.ListN.{length, drop}
 use Rattle.answer.specs.Table as table
 use Rattle.answer.specs.declared.Refusal.{Refusal}
-use Rattle.answer.specs.declared.Verdict.TheVariants as verdict
 use Rattle.answer.specs.Refusal.{because}
 use Rattle.answer.specs.Outcome.{Out, refused, ok, on, filled}
-use Rattle.answer.specs.Rule.{judged, passed}
-use Rattle.answer.proofs.Rules.{judged-holds, judged-refused}
+use Rattle.answer.specs.Rule.{passed}
 use Rattle.pageblock.specs.Body.{Handed}
 use Rattle.writer.specs.declared.Writer.{Writer}
 use Rattle.writer.specs.declared.Stepped.{Stepped}
@@ -23,13 +21,13 @@ use Rattle.viewer.proofs.Telling.{told-refused, told-ok}
 -- ---- a step's answer handed back, by its verdict
 
 module _ (r : Stepped) (ws : List ℕ) where
-  pub back-refused : (w : Refusal) (x : ℕ) → r.verdict ≡ verdict.Refused w → x ≡ word_of (refused w) → Told (judged r.verdict) (λ _. 0) (λ _. state_words r.writer) ws x ws
-  back-refused w x e p = told-refused w x (ap judged e ∙ judged-refused w) p
+  pub back-refused : (w : Refusal) (x : ℕ) → r.verdict ≡ refused w → x ≡ word_of (refused w) → Told r.verdict (λ _. 0) (λ _. state_words r.writer) ws x ws
+  back-refused w x e p = told-refused w x e p
 
-  pub back-taken : (left : List ℕ) → r.verdict ≡ verdict.Holds → left ≡ state_words r.writer ++ drop 4 ws
-      → Told (judged r.verdict) (λ _. 0) (λ _. state_words r.writer) ws 0 left
+  pub back-taken : (left : List ℕ) → r.verdict ≡ (ok tt) → left ≡ state_words r.writer ++ drop 4 ws
+      → Told r.verdict (λ _. 0) (λ _. state_words r.writer) ws 0 left
   unfolding state_words
-  back-taken left e p = told-ok tt 0 left (ap judged e ∙ judged-holds) refl p
+  back-taken left e p = told-ok tt 0 left e refl p
 
 -- ---- a call, by its outcome
 
@@ -40,7 +38,7 @@ kept-refused o ws d w x e p = record { told = told-refused w x e p; buffer = rw 
 
 -- the step, with what it hands back in the words
 handed : (o : Out Added) (st : Writer) (ws d : List ℕ) (r : Stepped) (left : List ℕ) (x : ℕ) (next : List ℕ)
-    → Steps o st d r left → Told (judged r.verdict) (λ _. 0) (λ _. state_words r.writer) ws x next → Kept o ws d x next left
+    → Steps o st d r left → Told r.verdict (λ _. 0) (λ _. state_words r.writer) ws x next → Kept o ws d x next left
 unfolding on passed filled state_after next_words
 handed (refused w) st ws d r left x next q t =
     record { told = record { word = t.word ∙ rw q.verdict; room = t.room ∙ rw q.verdict }; buffer = q.buffer }
@@ -48,7 +46,7 @@ handed (ok a) st ws d r left x next q t =
     record { told = record { word = t.word ∙ rw q.verdict; room = t.room ∙ rw (q.verdict, q.state) }; buffer = q.buffer }
 
 pub kept_step : (o p : Out Added) (st : Writer) (ws d : List ℕ) (r : Stepped) (left : List ℕ) (x : ℕ) (next : List ℕ) → o ≡ p
-    → Steps p st d r left → Told (judged r.verdict) (λ _. 0) (λ _. state_words r.writer) ws x next → Kept o ws d x next left
+    → Steps p st d r left → Told r.verdict (λ _. 0) (λ _. state_words r.writer) ws x next → Kept o ws d x next left
 kept_step o p st ws d r left x next e q t = rw e (handed p st ws d r left x next q t)
 
 -- ---- what a call comes to: 2 with fewer than four words, else the step on their state

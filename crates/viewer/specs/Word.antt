@@ -1,8 +1,6 @@
 -- Answers as one word, for C: bits 0 to 31 the number, or the page of a refusal; bits 32 to 39 the refusal's number, 0 if none; bits 40 and 41 its
 -- column, bits 42 to 53 its index. Assumes nothing.
 use Rattle.std.specs.Prelude.{ℕ, ◌+◌, ◌*◌, ◌^◌, ◌≡◌, List}
-use Rattle.answer.specs.declared.Filled.{Filled}
-use Rattle.answer.specs.declared.Filled.TheVariants as answer
 use Rattle.answer.specs.Outcome.{Out, refused, ok, on, filled}
 use Rattle.answer.specs.Lent.{LentMut, came_mut, left}
 
@@ -10,11 +8,6 @@ use Rattle.answer.specs.Lent.{LentMut, came_mut, left}
 unfoldable pub word_of : Out ℕ → ℕ
 word_of (ok n) = n
 word_of (refused w) = w.index * 2 ^ 42 + w.column * 2 ^ 40 + w.number * 2 ^ 32 + w.page
-
--- what the code's answer says: how many elements were put in a room, or the refusal
-unfoldable pub said_filled : Filled → Out ℕ
-said_filled (answer.Start n) = ok n
-said_filled (answer.Refused w) = refused w
 
 -- the contract of a call that fills the start of a lent room which held d: of the outcome's value the word says that number, and the room has that
 -- list at its start; a refusal is said whole, and leaves the room

@@ -10,7 +10,7 @@ ghost use Rattle.viewer.specs.Fetch.{fetch_call, ShownIn};
 use crate::four::put_four;
 use crate::word::{number_word, refusal_word};
 use answer::table::ROOM;
-use fetch::fetch::{Fetched, Found, fetch};
+use fetch::fetch::{Found, fetch};
 
 // With no room: what is refused before it, or 2.
 fn without_room(file: &[u8], place: usize) -> u64
@@ -20,8 +20,8 @@ fn without_room(file: &[u8], place: usize) -> u64
     let mut xs = [0u64; 0];
     let mut ys = [0u64; 0];
     match fetch(file, place, &mut lens, &mut xs, &mut ys) {
-        Fetched::Refused(w) => refusal_word(w),
-        Fetched::Shape(_) => number_word(ROOM),
+        Err(w) => refusal_word(w),
+        Ok(_) => number_word(ROOM),
     }
 }
 
@@ -55,8 +55,8 @@ pub fn boundary_fetch(
         return without_room(file, place as usize);
     }
     match fetch(file, place as usize, lens, xs, ys) {
-        Fetched::Refused(w) => refusal_word(w),
-        Fetched::Shape(f) => {
+        Err(w) => refusal_word(w),
+        Ok(f) => {
             put_about(about, f);
             f.vertices as u64
         }

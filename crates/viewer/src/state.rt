@@ -1,12 +1,10 @@
 // A writer's state, as four words.
 ghost use Rattle.std.specs.Prelude.{◌≡◌, ◌++◌, ◌≤◌, length, drop};
-ghost use Rattle.answer.specs.Rule.{judged};
 ghost use Rattle.viewer.specs.Word.{Told};
 ghost use Rattle.viewer.specs.Four.{capped_count, state_of, flag_of, state_words};
 
 use crate::four::put_four;
 use crate::word::refusal_word;
-use answer::Verdict;
 use writer::{Stepped, Writer};
 
 // A count of 32 bits; a word above is the greatest.
@@ -59,12 +57,12 @@ fn put_state(words: &mut [u64], st: Writer)
 // A step's answer as a word. Where the step was taken, its state goes in the words.
 pub(crate) fn hand_back(words: &mut [u64], r: Stepped) -> u64
     requires { 4 ≤ length words.old }
-    ensures { Told (judged r.verdict) (λ _. 0) (λ _. state_words r.writer) words.old result words.new }
+    ensures { Told r.verdict (λ _. 0) (λ _. state_words r.writer) words.old result words.new }
 {
     let v = r.verdict;
     match v {
-        Verdict::Refused(w) => refusal_word(w),
-        Verdict::Holds => {
+        Err(w) => refusal_word(w),
+        Ok(()) => {
             put_state(words, r.writer);
             0
         }

@@ -2,9 +2,9 @@
 ghost use Rattle.std.specs.Prelude.{◌≡◌};
 ghost use Rattle.answer.specs.Refusal.{because};
 ghost use Rattle.answer.specs.Outcome.{refused};
-ghost use Rattle.viewer.specs.Word.{word_of, said_filled};
+ghost use Rattle.viewer.specs.Word.{word_of};
 
-use answer::{Filled, Refusal};
+use answer::Refusal;
 
 // Bits 0 to 31 the page, bits 32 to 39 the number, bits 40 and 41 the column, bits 42 to 53 the index.
 pub fn refusal_word(w: Refusal) -> u64
@@ -24,11 +24,11 @@ pub fn number_word(number: u8) -> u64
 }
 
 // How many elements were put in a room, or the refusal.
-pub fn filled_word(f: Filled) -> u64
-    ensures { result ≡ word_of (said_filled f) }
+pub fn filled_word(f: Result<usize, Refusal>) -> u64
+    ensures { result ≡ word_of f }
 {
     match f {
-        Filled::Start(n) => n as u64,
-        Filled::Refused(w) => refusal_word(w),
+        Ok(n) => n as u64,
+        Err(w) => refusal_word(w),
     }
 }

@@ -1,4 +1,4 @@
-// The file writer opened, as one word.
+// The file writer opened, as one word. It and `boundary_close` differ in the step alone; C knows each by its name.
 ghost use Rattle.std.specs.Prelude.{length};
 ghost use Rattle.viewer.specs.Calls.{open_call, KeptIn};
 

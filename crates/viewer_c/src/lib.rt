@@ -9,7 +9,7 @@ ghost use Rattle.query.specs.Block.{ask_of};
 ghost use Rattle.file.specs.Check.{check_of};
 ghost use Rattle.search.specs.Search.{count_of};
 ghost use Rattle.fetch.specs.Fetch.{rooms_of};
-ghost use Rattle.pageblock.specs.Body.{handed};
+ghost use Rattle.pageblock.specs.Body.{handed_with};
 ghost use Rattle.viewer.specs.Word.{word_of, ToldIn};
 ghost use Rattle.viewer.specs.Fetch.{fetch_call, ShownIn};
 ghost use Rattle.viewer.specs.Calls.{search_call, step_call, gives, moves, open_call, page_call, close_call, KeptIn};
@@ -99,7 +99,7 @@ pub extern "C" fn boundary_page(
     xs: &[u64],
     ys: &[u64],
 ) -> u64
-    ensures { KeptIn (page_call writer.old (length buffer.old) (handed registers types counts lens xs ys)) writer buffer result }
+    ensures { KeptIn (page_call writer.old (length buffer.old) (handed_with registers.now types.now counts.now lens.now xs.now ys.now)) writer buffer result }
 {
     viewer::writer_page::boundary_page(writer, buffer, registers, types, counts, lens, xs, ys)
 }

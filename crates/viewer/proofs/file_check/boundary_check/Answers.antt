@@ -2,8 +2,8 @@
 use Rattle.viewer.proofs.Words.{word_sound, word-refused}
 use Rattle.viewer.proofs.file_check.boundary_check.Goals as goal
 
-pub returns-in-Sound : goal.returns-in-Sound
-returns-in-Sound c = word_sound _ _ c.check.ensures _ c.in-Sound.is
+pub returns-in-Ok : goal.returns-in-Ok
+returns-in-Ok c = word_sound _ _ c.check.ensures _ c.in-Ok.is
 
-pub returns-in-Refused : goal.returns-in-Refused
-returns-in-Refused c = word-refused _ _ c.check.ensures _ _ c.in-Refused.is c.refusal_word.ensures
+pub returns-in-Err : goal.returns-in-Err
+returns-in-Err c = word-refused _ _ c.check.ensures _ _ c.in-Err.is c.refusal_word.ensures

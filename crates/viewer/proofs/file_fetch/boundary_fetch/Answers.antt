@@ -11,13 +11,13 @@ returns-then-about-lt4 c =
     let h : length a.about.now < 4 = omega (arith, c.if-about-lt4.true) in
     shown-short _ _ _ _ _ _ _ h c.without_room.ensures
 
-pub returns-in-Shape : goal.returns-in-Shape
-returns-in-Shape c =
+pub returns-in-Ok : goal.returns-in-Ok
+returns-in-Ok c =
     let short = c.if-about-lt4 in
     let fetch = c.fetch in
-    shown-found _ _ _ _ _ _ short.false _ _ _ _ fetch.ensures _ _ c.in-Shape.is c.put_about.ensures
+    shown-found _ _ _ _ _ _ short.false _ _ _ _ fetch.ensures _ _ c.in-Ok.is c.put_about.ensures
 
-pub returns-in-Refused : goal.returns-in-Refused
-returns-in-Refused c =
+pub returns-in-Err : goal.returns-in-Err
+returns-in-Err c =
     let fetch = c.fetch in
-    shown-unfound _ _ _ _ _ _ c.if-about-lt4.false _ _ _ _ fetch.ensures _ _ c.in-Refused.is c.refusal_word.ensures
+    shown-unfound _ _ _ _ _ _ c.if-about-lt4.false _ _ _ _ fetch.ensures _ _ c.in-Err.is c.refusal_word.ensures

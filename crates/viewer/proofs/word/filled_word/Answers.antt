@@ -2,8 +2,8 @@
 use Rattle.viewer.proofs.Telling.{start_is, refused-is}
 use Rattle.viewer.proofs.word.filled_word.Goals as goal
 
-pub returns-in-Start : goal.returns-in-Start
-returns-in-Start c = start_is _ _ c.in-Start.is
+pub returns-in-Ok : goal.returns-in-Ok
+returns-in-Ok c = start_is _ _ c.in-Ok.is
 
-pub returns-in-Refused : goal.returns-in-Refused
-returns-in-Refused c = refused-is _ _ _ c.in-Refused.is c.refusal_word.ensures
+pub returns-in-Err : goal.returns-in-Err
+returns-in-Err c = refused-is _ _ _ c.in-Err.is c.refusal_word.ensures
