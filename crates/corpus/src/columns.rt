@@ -1,7 +1,8 @@
 // The calls on columns.
+use crate::copies::copied;
+use crate::line::Line;
+use crate::malformed;
 use crate::record::{part, plain_at, span_at};
-use crate::saying::{answered, ended, malformed};
-use crate::{copies, hex};
 use viewer::column_read::boundary_column_read;
 use viewer::column_step::boundary_column_step;
 use viewer::column_write::boundary_column_write;
@@ -13,8 +14,8 @@ const COLUMN: usize = 20000;
 pub(crate) fn written(input: &[u8]) -> bool {
     let mut values = [0u64; 2100];
     let mut room = [0u8; 20000];
-    let v = copies::u64s(input, 1, &mut values);
-    let r = copies::u8s(input, v.next, &mut room);
+    let v = copied(input, 1, &mut values);
+    let r = copied(input, v.next, &mut room);
     if r.next != input.len() {
         return malformed();
     }
@@ -26,9 +27,9 @@ pub(crate) fn written(input: &[u8]) -> bool {
 // The column write, and its line.
 fn write(values: &[u64], room: &mut [u8]) -> bool {
     let word = boundary_column_write(values, room);
-    answered(4, word);
-    hex::u8s(room);
-    ended()
+    let mut line = Line::new(4, word);
+    line.room(room);
+    line.end()
 }
 
 // 5: column, n, room.
@@ -36,7 +37,7 @@ pub(crate) fn values(input: &[u8]) -> bool {
     let mut room = [0u64; 2100];
     let s = span_at(input, 1, 1, COLUMN);
     let n = plain_at(input, s.next);
-    let r = copies::u64s(input, n.next, &mut room);
+    let r = copied(input, n.next, &mut room);
     if r.next != input.len() {
         return malformed();
     }
@@ -48,9 +49,9 @@ pub(crate) fn values(input: &[u8]) -> bool {
 // The column read, and its line.
 fn read(column: &[u8], n: usize, room: &mut [u64]) -> bool {
     let word = boundary_column_read(column, n, room);
-    answered(5, word);
-    hex::u64s(room);
-    ended()
+    let mut line = Line::new(5, word);
+    line.room(room);
+    line.end()
 }
 
 // 6: column, n, position.
@@ -58,7 +59,7 @@ pub(crate) fn stepped(input: &[u8]) -> bool {
     let mut position = [0u64; 8];
     let s = span_at(input, 1, 1, COLUMN);
     let n = plain_at(input, s.next);
-    let p = copies::u64s(input, n.next, &mut position);
+    let p = copied(input, n.next, &mut position);
     if p.next != input.len() {
         return malformed();
     }
@@ -70,7 +71,7 @@ pub(crate) fn stepped(input: &[u8]) -> bool {
 // The column step, and its line.
 fn step(column: &[u8], n: usize, position: &mut [u64]) -> bool {
     let word = boundary_column_step(column, n, position);
-    answered(6, word);
-    hex::u64s(position);
-    ended()
+    let mut line = Line::new(6, word);
+    line.room(position);
+    line.end()
 }

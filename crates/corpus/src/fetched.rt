@@ -1,7 +1,8 @@
 // The fetch.
+use crate::copies::copied;
+use crate::line::Line;
+use crate::malformed;
 use crate::record::{part, plain_at, span_at};
-use crate::saying::{answered, ended, malformed};
-use crate::{copies, hex};
 use viewer::file_fetch::boundary_fetch;
 
 // 3: file, place, about, lens, xs, ys.
@@ -10,8 +11,8 @@ pub(crate) fn fetched(input: &[u8]) -> bool {
     let mut lens = [0u16; 2100];
     let f = span_at(input, 1, 1, 65000);
     let p = plain_at(input, f.next);
-    let a = copies::u64s(input, p.next, &mut about);
-    let l = copies::u16s(input, a.next, &mut lens);
+    let a = copied(input, p.next, &mut about);
+    let l = copied(input, a.next, &mut lens);
     let file = part(input, f.from, f.count);
     let n = a.count;
     let m = l.count;
@@ -36,8 +37,8 @@ fn from_xs(
 ) -> bool {
     let mut xs = [0u64; 2100];
     let mut ys = [0u64; 2100];
-    let x = copies::u64s(input, at, &mut xs);
-    let y = copies::u64s(input, x.next, &mut ys);
+    let x = copied(input, at, &mut xs);
+    let y = copied(input, x.next, &mut ys);
     let n = x.count;
     let m = y.count;
     fetch(
@@ -72,10 +73,10 @@ fn fetch(
 
 // The line of a fetch: the answer, and the four rooms.
 fn showed(word: u64, about: &[u64], lens: &[u16], xs: &[u64], ys: &[u64]) -> bool {
-    answered(3, word);
-    hex::u64s(about);
-    hex::u16s(lens);
-    hex::u64s(xs);
-    hex::u64s(ys);
-    ended()
+    let mut line = Line::new(3, word);
+    line.room(about);
+    line.room(lens);
+    line.room(xs);
+    line.room(ys);
+    line.end()
 }

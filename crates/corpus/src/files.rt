@@ -1,7 +1,8 @@
 // The calls on files that list nothing of a shape: the full check, the count and the search. Files and queries are read where they stand in the record.
+use crate::copies::copied;
+use crate::line::Line;
+use crate::malformed;
 use crate::record::{part, span_at};
-use crate::saying::{answered, ended, malformed};
-use crate::{copies, hex};
 use viewer::file_check::boundary_check;
 use viewer::file_count::boundary_count;
 use viewer::file_search::boundary_search;
@@ -18,9 +19,7 @@ pub(crate) fn checked(input: &[u8]) -> bool {
         return malformed();
     }
     let file = part(input, f.from, f.count);
-    let word = boundary_check(file);
-    answered(0, word);
-    ended()
+    Line::new(0, boundary_check(file)).end()
 }
 
 // 1: query, file.
@@ -32,9 +31,7 @@ pub(crate) fn counted(input: &[u8]) -> bool {
     }
     let query = part(input, q.from, q.count);
     let file = part(input, f.from, f.count);
-    let word = boundary_count(query, file);
-    answered(1, word);
-    ended()
+    Line::new(1, boundary_count(query, file)).end()
 }
 
 // 2: query, file, places.
@@ -42,7 +39,7 @@ pub(crate) fn searched(input: &[u8]) -> bool {
     let mut places = [0u32; 300];
     let q = span_at(input, 1, 1, QUERY);
     let f = span_at(input, q.next, 1, FILE);
-    let p = copies::u32s(input, f.next, &mut places);
+    let p = copied(input, f.next, &mut places);
     if p.next != input.len() {
         return malformed();
     }
@@ -55,7 +52,7 @@ pub(crate) fn searched(input: &[u8]) -> bool {
 // The search, and its line.
 fn search(query: &[u8], file: &[u8], places: &mut [u32]) -> bool {
     let word = boundary_search(query, file, places);
-    answered(2, word);
-    hex::u32s(places);
-    ended()
+    let mut line = Line::new(2, word);
+    line.room(places);
+    line.end()
 }

@@ -11,21 +11,28 @@
 
 mod columns;
 mod copies;
+mod element;
 mod fetched;
 mod files;
-mod hex;
+mod line;
 mod record;
-mod saying;
 mod service;
 mod writing;
 
 use le::number::u32_at;
 use record::part;
-use saying::malformed;
 use service::served;
 
-// Standard input, by its number.
+// Standard input and output, by their numbers.
 const STDIN_FILENO: i32 = 0;
+
+const STDOUT_FILENO: i32 = 1;
+
+// The last line of a run that ends early.
+fn malformed() -> bool {
+    io::write_all(STDOUT_FILENO, b"malformed\n");
+    false
+}
 
 // Reads one case and serves it. Whether another may follow: not at the end of the input, and not after a malformed record.
 fn turn(input: &mut [u8]) -> bool {
@@ -38,10 +45,7 @@ fn turn(input: &mut [u8]) -> bool {
         return malformed();
     }
     let n = u32_at(&head, 0);
-    if input.len() < n {
-        return malformed();
-    }
-    if io::read_full(STDIN_FILENO, &mut input[..n]) < n {
+    if input.len() < n || io::read_full(STDIN_FILENO, &mut input[..n]) < n {
         return malformed();
     }
     served(part(input, 0, n))
@@ -49,9 +53,10 @@ fn turn(input: &mut [u8]) -> bool {
 
 // Case after case, each read over the one before; at most 16,777,216 of them, so that it ends whatever it reads.
 fn every(input: &mut [u8]) {
-    let mut left: usize = 16777216;
-    while 0 < left && turn(input) {
-        left -= 1;
+    for _ in 0..16777216 {
+        if !turn(input) {
+            return;
+        }
     }
 }
 

@@ -39,10 +39,7 @@ pub(crate) fn span_at(input: &[u8], at: usize, size: usize, most: usize) -> Span
     ensures { (result.from + size * result.count ≤ length input.now) × (result.count ≤ most) }
 {
     let len = input.len();
-    if len < 4 {
-        return nothing();
-    }
-    if len - 4 < at {
+    if len < 4 || len - 4 < at {
         return nothing();
     }
     let count = u32_at(input, at);
@@ -64,13 +61,7 @@ pub(crate) fn span_at(input: &[u8], at: usize, size: usize, most: usize) -> Span
 // The plain number at a place.
 pub(crate) fn plain_at(input: &[u8], at: usize) -> Plain {
     let len = input.len();
-    if len < 8 {
-        return Plain {
-            value: 0,
-            next: NOWHERE,
-        };
-    }
-    if len - 8 < at {
+    if len < 8 || len - 8 < at {
         return Plain {
             value: 0,
             next: NOWHERE,

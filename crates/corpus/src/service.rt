@@ -1,14 +1,12 @@
-// The service that a record asks for, by its first byte.
+// The service that a record asks for, by its first byte: a number in the record, and each is run in this one place.
 use crate::fetched::fetched;
-use crate::saying::malformed;
-use crate::{columns, files, writing};
+use crate::{columns, files, malformed, writing};
 
 // Serves a record and prints its line. Whether another case may follow.
 pub(crate) fn served(input: &[u8]) -> bool {
-    if input.len() == 0 {
+    let Some(&service) = input.first() else {
         return malformed();
-    }
-    let service = input[0];
+    };
     match service {
         0 => files::checked(input),
         1 => files::counted(input),

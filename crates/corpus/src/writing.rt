@@ -1,25 +1,26 @@
 // The calls of the writer.
+use crate::copies::copied;
+use crate::line::Line;
+use crate::malformed;
 use crate::record::{part, span_at};
-use crate::saying::{answered, ended, malformed};
-use crate::{copies, hex};
 use viewer::writer_close::boundary_close;
 use viewer::writer_open::boundary_open;
 use viewer::writer_page::boundary_page;
 
 // The line of a call: the answer, the writer's state and the buffer.
-fn showed(service: u64, word: u64, writer: &[u64], buffer: &[u8]) -> bool {
-    answered(service, word);
-    hex::u64s(writer);
-    hex::u8s(buffer);
-    ended()
+fn showed(service: u8, word: u64, writer: &[u64], buffer: &[u8]) -> bool {
+    let mut line = Line::new(service, word);
+    line.room(writer);
+    line.room(buffer);
+    line.end()
 }
 
 // 7, open, and 9, close: writer, buffer. 8, page: writer, buffer, registers, types, counts, lens, xs, ys.
 pub(crate) fn stepped(input: &[u8], service: u8) -> bool {
     let mut writer = [0u64; 8];
     let mut buffer = [0u8; 20000];
-    let w = copies::u64s(input, 1, &mut writer);
-    let b = copies::u8s(input, w.next, &mut buffer);
+    let w = copied(input, 1, &mut writer);
+    let b = copied(input, w.next, &mut buffer);
     let n = w.count;
     let m = b.count;
     from_there(input, b.next, service, &mut writer[..n], &mut buffer[..m])
@@ -55,9 +56,9 @@ fn close(writer: &mut [u64], buffer: &mut [u8]) -> bool {
 fn from_registers(input: &[u8], at: usize, writer: &mut [u64], buffer: &mut [u8]) -> bool {
     let mut registers = [0u32; 300];
     let mut counts = [0u16; 300];
-    let r = copies::u32s(input, at, &mut registers);
+    let r = copied(input, at, &mut registers);
     let t = span_at(input, r.next, 1, 300);
-    let c = copies::u16s(input, t.next, &mut counts);
+    let c = copied(input, t.next, &mut counts);
     let types = part(input, t.from, t.count);
     let n = r.count;
     let m = c.count;
@@ -83,7 +84,7 @@ fn from_lens(
     counts: &[u16],
 ) -> bool {
     let mut lens = [0u16; 2100];
-    let l = copies::u16s(input, at, &mut lens);
+    let l = copied(input, at, &mut lens);
     let n = l.count;
     from_xs(
         input,
@@ -110,8 +111,8 @@ fn from_xs(
 ) -> bool {
     let mut xs = [0u64; 2100];
     let mut ys = [0u64; 2100];
-    let x = copies::u64s(input, at, &mut xs);
-    let y = copies::u64s(input, x.next, &mut ys);
+    let x = copied(input, at, &mut xs);
+    let y = copied(input, x.next, &mut ys);
     let n = x.count;
     let m = y.count;
     page(

@@ -4,5 +4,5 @@ use native.Mathlib.Omega.{arith}
 use lib.Seq.{length-take-le}
 use Rattle.corpus.proofs.turn.Goals as goal
 
-pub slice_bounds-read_full-end-3 : goal.slice_bounds-read_full-end-3
-slice_bounds-read_full-end-3 c = sym (length-take-le _ _ (omega arith))
+pub slice_bounds-read_full-end-else-input-n-2 : goal.slice_bounds-read_full-end-else-input-n-2
+slice_bounds-read_full-end-else-input-n-2 c = sym (length-take-le _ _ (omega arith))

@@ -9,12 +9,6 @@ use Rattle.corpus.proofs.record.span_at.Goals as goal
 none-fits : (size from count len : ℕ) → from ≡ 0 → count ≡ 0 → from + size * count ≤ len
 none-fits size from count len p q = rw (p, q, mul-zero) (omega arith)
 
-pub returns-then-len-lt4 : goal.returns-then-len-lt4
-returns-then-len-lt4 c = (none-fits _ _ _ _ c.nothing.ensures.0 c.nothing.ensures.1, omega arith)
-
-pub returns-then-len-at : goal.returns-then-len-at
-returns-then-len-at c = (none-fits _ _ _ _ c.nothing-then-len-at.ensures.0 c.nothing-then-len-at.ensures.1, omega arith)
-
 pub returns-then-most-count : goal.returns-then-most-count
 returns-then-most-count c = (none-fits _ _ _ _ c.nothing-then-most-count.ensures.0 c.nothing-then-most-count.ensures.1, omega arith)
 
