@@ -2,7 +2,8 @@
 // hand from the document; docs/FORMAT.md shows them one by one.
 #![tactic(auto)]
 
-use answer::{Refusal, Verdict};
+use answer::Refusal;
+use pageblock::lists::PageLists;
 use std::io::{Print, Result};
 use text::lines::put_refused;
 use types::rows::{EMPTY, LINE_STRING, POINT, POLYGON};
@@ -23,24 +24,32 @@ const MINUS_ONE: u64 = 0xBFF0_0000_0000_0000;
 
 // Register 101, Polygon (0,0) (0,10) (10,10) (10,0) (0,0); register 102, Point (20,5).
 fn first_page(w: Writer, file: &mut [u8]) -> Stepped {
-    let registers: [u32; 2] = [101, 102];
-    let types: [u8; 2] = [POLYGON, POINT];
-    let counts: [u16; 2] = [1, 1];
-    let lens: [u16; 2] = [5, 1];
-    let xs: [u64; 6] = [ZERO, ZERO, TEN, TEN, ZERO, TWENTY];
-    let ys: [u64; 6] = [ZERO, TEN, TEN, ZERO, ZERO, FIVE];
-    w.page(file, &registers, &types, &counts, &lens, &xs, &ys)
+    w.page(
+        file,
+        PageLists {
+            registers: &[101, 102],
+            types: &[POLYGON, POINT],
+            counts: &[1, 1],
+            lens: &[5, 1],
+            xs: &[ZERO, ZERO, TEN, TEN, ZERO, TWENTY],
+            ys: &[ZERO, TEN, TEN, ZERO, ZERO, FIVE],
+        },
+    )
 }
 
 // Register 101, LineString (-5,-5) (-1,-1); register 103, empty.
 fn second_page(w: Writer, file: &mut [u8]) -> Stepped {
-    let registers: [u32; 2] = [101, 103];
-    let types: [u8; 2] = [LINE_STRING, EMPTY];
-    let counts: [u16; 2] = [1, 0];
-    let lens: [u16; 1] = [2];
-    let xs: [u64; 2] = [MINUS_FIVE, MINUS_ONE];
-    let ys: [u64; 2] = [MINUS_FIVE, MINUS_ONE];
-    w.page(file, &registers, &types, &counts, &lens, &xs, &ys)
+    w.page(
+        file,
+        PageLists {
+            registers: &[101, 103],
+            types: &[LINE_STRING, EMPTY],
+            counts: &[1, 0],
+            lens: &[2],
+            xs: &[MINUS_FIVE, MINUS_ONE],
+            ys: &[MINUS_FIVE, MINUS_ONE],
+        },
+    )
 }
 
 // The refused line.
@@ -55,13 +64,13 @@ fn show(rt: &impl Print, last: Stepped, file: &[u8]) -> Result<()> {
     let end = last.writer.position;
     let verdict = last.verdict;
     match verdict {
-        Verdict::Holds => {
+        Ok(()) => {
             if end <= file.len() {
                 return rt.write_all(&file[..end]);
             }
             Ok(())
         }
-        Verdict::Refused(w) => say_refused(rt, w),
+        Err(w) => say_refused(rt, w),
     }
 }
 

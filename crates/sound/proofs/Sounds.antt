@@ -15,9 +15,6 @@ use Rattle.answer.specs.Refusal.{because}
 use Rattle.answer.specs.Outcome.{Out, refused, ok}
 use Rattle.answer.proofs.Outcomes.{met, unmet}
 use Rattle.frame.specs.declared.walk.Totals.{Totals}
-use Rattle.frame.specs.declared.walk.Checked.{Checked}
-use Rattle.frame.specs.declared.walk.Checked.TheVariants.{Sound, Refused}
-use Rattle.frame.specs.Said.{said_checked}
 use Rattle.file.specs.Check.{check_of}
 use Rattle.text.specs.Pieces.{Piece, codes, text_of, most, Puts}
 use Rattle.text.specs.Lines.{refused_line, sound_line}
@@ -27,23 +24,23 @@ use Rattle.text.proofs.Stretches.{Written, written_none}
 use Rattle.sound.specs.Sound.{most_read, judged_of, line_of, sound_of, printed_of}
 
 -- over 40,960 bytes, and no more
-pub judged-many : (s : List ℕ) → 40960 < length s → said_checked (Refused (because many)) ≡ judged_of s
-unfolding judged_of said_checked
+pub judged-many : (s : List ℕ) → 40960 < length s → refused (because many) ≡ judged_of s
+unfolding judged_of
 judged-many s h = sym (unmet (because many) (check_of s) (lt-leb (length s) 40960 h))
 
-pub judged-check : (s : List ℕ) (r : Checked) → length s ≤ 40960 → said_checked r ≡ check_of s → said_checked r ≡ judged_of s
+pub judged-check : (s : List ℕ) (r : Out Totals) → length s ≤ 40960 → r ≡ check_of s → r ≡ judged_of s
 unfolding judged_of
 judged-check s r h e = e ∙ sym (met (because many) (check_of s) (le-leb (length s) 40960 h))
 
 -- the line of a sound file, and of a refused one
-module _ (s d : List ℕ) (says : Checked) (r : ℕ) (left : List ℕ) (e : said_checked says ≡ judged_of s) where
-  pub line-sound : (t : Totals) → says ≡ Sound t → Puts d 0 (sound_line t.pages t.shapes) r left → Puts d 0 (sound_of s) r left
-  unfolding said_checked line_of sound_of
-  line-sound t f = subst (λ (l : List Piece). Puts d 0 l r left) (ap line_of (sym (ap said_checked f) ∙ e))
+module _ (s d : List ℕ) (says : Out Totals) (r : ℕ) (left : List ℕ) (e : says ≡ judged_of s) where
+  pub line-sound : (t : Totals) → says ≡ ok t → Puts d 0 (sound_line t.pages t.shapes) r left → Puts d 0 (sound_of s) r left
+  unfolding line_of sound_of
+  line-sound t f = subst (λ (l : List Piece). Puts d 0 l r left) (ap line_of (sym f ∙ e))
 
-  pub line_refused : (w : Refusal) → says ≡ Refused w → Puts d 0 (refused_line w) r left → Puts d 0 (sound_of s) r left
-  unfolding said_checked line_of sound_of
-  line_refused w f = subst (λ (l : List Piece). Puts d 0 l r left) (ap line_of (sym (ap said_checked f) ∙ e))
+  pub line_refused : (w : Refusal) → says ≡ refused w → Puts d 0 (refused_line w) r left → Puts d 0 (sound_of s) r left
+  unfolding line_of sound_of
+  line_refused w f = subst (λ (l : List Piece). Puts d 0 l r left) (ap line_of (sym f ∙ e))
 
 -- ---- what is printed
 
@@ -67,7 +64,7 @@ unfolding printed_of sound_of
 printed-first s = ap (λ (o : Out Totals). text_of (line_of o)) (go (leb (length s) most_read) refl)
   where
     long : (l : List ℕ) → 40960 < length l → judged_of l ≡ refused (because many)
-    long l h = sym (judged-many l h) ∙ unfold said_checked in refl
+    long l h = sym (judged-many l h)
 
     go : (t : Bool) → leb (length s) most_read ≡ t → judged_of (take most_read s) ≡ judged_of s
     go true e = ap judged_of (take_all most_read s (leb-true (length s) most_read e))

@@ -1,7 +1,6 @@
 // The line for the bytes of a file: the size is judged first (3), then the full check.
 ghost use Rattle.std.specs.Prelude.{◌≡◌};
 ghost use Rattle.io.specs.Counts.{IsPrefixLen};
-ghost use Rattle.frame.specs.Said.{said_checked};
 ghost use Rattle.text.specs.Pieces.{Puts};
 ghost use Rattle.sound.specs.Sound.{judged_of, sound_of};
 
@@ -9,15 +8,15 @@ use answer::Refusal;
 use answer::limits::MOST_INPUT;
 use answer::table::MANY;
 use file::check::check;
-use frame::walk::Checked;
+use frame::walk::Totals;
 use text::lines::{put_refused, put_sound};
 
 // 3 for over 40,960 bytes, else the full check.
-fn judged(input: &[u8]) -> Checked
-    ensures { said_checked result ≡ judged_of input.now }
+fn judged(input: &[u8]) -> Result<Totals, Refusal>
+    ensures { result ≡ judged_of input.now }
 {
     if MOST_INPUT < input.len() {
-        return Checked::Refused(Refusal::because(MANY));
+        return Err(Refusal::because(MANY));
     }
     check(input)
 }
@@ -28,7 +27,7 @@ pub fn put_line(input: &[u8], out: &mut [u8; 96]) -> usize
     ensures prefix_len { IsPrefixLen result out.new }
 {
     match judged(input) {
-        Checked::Sound(t) => put_sound(out, 0, t.pages, t.shapes),
-        Checked::Refused(w) => put_refused(out, 0, w),
+        Ok(t) => put_sound(out, 0, t.pages, t.shapes),
+        Err(w) => put_refused(out, 0, w),
     }
 }

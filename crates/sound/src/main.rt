@@ -5,7 +5,7 @@
 mod line;
 mod print;
 
-use input::{Input, read_input};
+use input::read_input;
 use print::print;
 use told::fail;
 
@@ -13,10 +13,10 @@ use told::fail;
 fn main(rt: HostRuntime) {
     let mut bytes = [0u8; 40961];
     match read_input(&mut rt.stdin(), &mut bytes) {
-        Input::Is(n) => {
+        Ok(n) => {
             print(&rt, &bytes[..n]);
         }
-        Input::Broken(why) => {
+        Err(why) => {
             fail(&rt, "sound: standard input", why);
         }
     }
