@@ -9,57 +9,47 @@ use lib.ListN.{length, take, drop, length-append, length-map, length-drop}
 use lib.Seq.{take_at, take_all, length-take-le}
 use Rattle.answer.specs.Table as table
 use Rattle.answer.specs.declared.Refusal.{Refusal}
-use Rattle.answer.specs.declared.Filled.{Filled}
-use Rattle.answer.specs.declared.Filled.TheVariants as filled
 use Rattle.answer.specs.Refusal.{because}
 use Rattle.answer.specs.Outcome.{Out, refused, ok, on, Fills}
 use Rattle.answer.proofs.Outcomes.{ok-inj, met, unmet, need-ok, on-ok, filled-refused, filled-start}
 use Rattle.answer.proofs.Orders.{on-refused, on_value, on-stopped}
 use Rattle.query.specs.declared.ask.Ask.{Ask}
-use Rattle.query.specs.declared.query_block.AskRead.{AskRead}
-use Rattle.query.specs.declared.query_block.AskRead.TheVariants as asked
-use Rattle.query.specs.declared.query_block.BlockLen.{BlockLen}
-use Rattle.query.specs.declared.query_block.BlockLen.TheVariants as len
-use Rattle.query.specs.Block.{block_len, said_len, ask_of, said_ask}
+use Rattle.query.specs.Block.{block_len, ask_of}
 use Rattle.frame.specs.declared.walk.Totals.{Totals}
-use Rattle.frame.specs.declared.walk.Checked.{Checked}
-use Rattle.frame.specs.declared.walk.Checked.TheVariants as checked
 use Rattle.frame.specs.Frame.{frame_of, totals_of, shapes_of}
-use Rattle.frame.specs.Said.{said_checked}
 use Rattle.frame.proofs.Walks.{sound-said, frame-refusal-said}
 use Rattle.place.specs.declared.row.Row.{Row}
+use Rattle.list.specs.declared.listing.Rows.{Rows}
 use Rattle.place.specs.Rows.{rows_in, rows_of, registers_from, types_from}
 use Rattle.place.proofs.Places.{rows-framed, rows-refused, room-both}
 use Rattle.search.specs.Search.{hits_of, search_of}
-use Rattle.list.specs.declared.listing.Listed.{Listed}
-use Rattle.list.specs.declared.listing.Listed.TheVariants.{Rows, Refused}
 use Rattle.list.specs.Listing.{Listing, listing, listing_with, listing_at, listing_for, listing_behind, listing_of, said_listed, Lists}
 
 -- ---- an answer
 
 -- a refusal is that of the outcome
-pub lists-refused : {o : Out Listing} {places registers types : List ℕ} (w : Refusal) → o ≡ refused w → Lists o (Refused w) places registers types
+pub lists-refused : {o : Out Listing} {places registers types : List ℕ} (w : Refusal) → o ≡ refused w → Lists o (refused w) places registers types
 unfolding said_listed
 lists-refused w e = record {
   said = sym e;
-  places_fit = λ hits shapes r. absurd (let z : ◌≡◌ {A = ℕ} 0 1 = cc in omega arith);
-  registers_fit = λ hits shapes r. absurd (let z : ◌≡◌ {A = ℕ} 0 1 = cc in omega arith);
-  types_fit = λ hits shapes r. absurd (let z : ◌≡◌ {A = ℕ} 0 1 = cc in omega arith);
+  places_fit = λ x r. absurd (let z : ◌≡◌ {A = ℕ} 0 1 = cc in omega arith);
+  registers_fit = λ x r. absurd (let z : ◌≡◌ {A = ℕ} 0 1 = cc in omega arith);
+  types_fit = λ x r. absurd (let z : ◌≡◌ {A = ℕ} 0 1 = cc in omega arith);
 }
 
 -- what lists one outcome lists another that is the same
-pub lists-same : {o q : Out Listing} {says : Listed} {places registers types : List ℕ} → o ≡ q → Lists o says places registers types → Lists q says places registers types
+pub lists-same : {o q : Out Listing} {says : Out Rows} {places registers types : List ℕ} → o ≡ q → Lists o says places registers types → Lists q says places registers types
 lists-same {says = says} {places = places} {registers = registers} {types = types} e l = subst (λ (x : Out Listing). Lists x says places registers types) e l
 
 -- and back: what an answer tells of the outcome
-module _ {o : Out Listing} {says : Listed} {places registers types : List ℕ} (l : Lists o says places registers types) where
-  pub refused-said : (w : Refusal) → says ≡ Refused w → o ≡ refused w
+module _ {o : Out Listing} {says : Out Rows} {places registers types : List ℕ} (l : Lists o says places registers types) where
+  pub refused-said : (w : Refusal) → says ≡ refused w → o ≡ refused w
   unfolding said_listed
-  refused-said w e = sym l.said ∙ ap (λ (x : Listed). said_listed x places registers types) e
+  refused-said w e = sym l.said ∙ ap (λ (x : Out Rows). said_listed x places registers types) e
 
-  pub rows-said : (hits shapes : ℕ) → says ≡ Rows hits shapes → o ≡ ok (listing (take hits places) (take hits registers) (take hits types) shapes)
+  pub rows-said : (r : Rows) → says ≡ ok r → o ≡ ok (listing (take r.hits places) (take r.hits registers) (take r.hits types) r.shapes)
   unfolding said_listed
-  rows-said hits shapes e = sym l.said ∙ ap (λ (x : Listed). said_listed x places registers types) e
+  rows-said r e = sym l.said ∙ ap (λ (x : Out Rows). said_listed x places registers types) e
 
 -- ---- hits, with their rows
 
@@ -80,7 +70,7 @@ record RowsFor (file P : List ℕ) (n : ℕ) (er et : List ℕ) : Type 0 where
   pub registers_fit : n ≤ length er
   pub types_fit : n ≤ length et
 
-module _ (file P : List ℕ) (n : ℕ) (dr dt er et : List ℕ) (hp : n ≤ length P) (hr : n ≤ length dr) (ht : n ≤ length dt) (r : Filled)
+module _ (file P : List ℕ) (n : ℕ) (dr dt er et : List ℕ) (hp : n ≤ length P) (hr : n ≤ length dr) (ht : n ≤ length dt) (r : Out ℕ)
     (fr : Fills (registers_from (rows_of file (take n P) (length dr) (length dt))) dr r er)
     (ft : Fills (types_from (rows_of file (take n P) (length dr) (length dt))) dt r et) where
   long : length (take n P) ≡ n
@@ -89,18 +79,18 @@ module _ (file P : List ℕ) (n : ℕ) (dr dt er et : List ℕ) (hp : n ≤ leng
   with-room : rows_of file (take n P) (length dr) (length dt) ≡ rows_in file (take n P)
   with-room = roomy file (take n P) (length dr) (length dt) (omega (arith, long)) (omega (arith, long))
 
-  pub places-refused : (w : Refusal) → r ≡ filled.Refused w → Lists (listing_at file (take n P)) (Refused w) P er et
+  pub places-refused : (w : Refusal) → r ≡ refused w → Lists (listing_at file (take n P)) (refused w) P er et
   unfolding registers_from listing_at
   places-refused w e =
-      let x = filled-refused _ dr w er (subst (λ (q : Filled). Fills (registers_from (rows_of file (take n P) (length dr) (length dt))) dr q er) e fr) in
+      let x = filled-refused _ dr w er (subst (λ (q : Out ℕ). Fills (registers_from (rows_of file (take n P) (length dr) (length dt))) dr q er) e fr) in
       lists-refused w (on-refused (rows_in file (take n P)) _ w (sym with-room ∙ on-stopped (rows_of file (take n P) (length dr) (length dt)) _ w x.0))
 
-  rowed : (m : ℕ) → r ≡ filled.Start m → RowsFor file P n er et
+  rowed : (m : ℕ) → r ≡ ok m → RowsFor file P n er et
   unfolding registers_from types_from
   rowed m e =
       let o = rows_of file (take n P) (length dr) (length dt) in
-      let x = filled-start (registers_from o) dr m er (subst (λ (q : Filled). Fills (registers_from o) dr q er) e fr) in
-      let y = filled-start (types_from o) dt m et (subst (λ (q : Filled). Fills (types_from o) dt q et) e ft) in
+      let x = filled-start (registers_from o) dr m er (subst (λ (q : Out ℕ). Fills (registers_from o) dr q er) e fr) in
+      let y = filled-start (types_from o) dt m et (subst (λ (q : Out ℕ). Fills (types_from o) dt q et) e ft) in
       let u = on-ok o _ x.0 x.1 in
       let v = on-ok o _ y.0 y.1 in
       let same : v.0 ≡ u.0 = ok-inj (sym v.1 ∙ u.1) in
@@ -119,14 +109,14 @@ module _ (file P : List ℕ) (n : ℕ) (dr dt er et : List ℕ) (hp : n ≤ leng
         types_fit = omega (arith, nt, ap length y.3, length-append y.0 (drop m dt));
       }
 
-  module _ (m : ℕ) (e : r ≡ filled.Start m) (c : Checked) (q : said_checked c ≡ on (frame_of file) (λ f. ok (totals_of f))) where
-    pub places-frame : (w : Refusal) → c ≡ checked.Refused w → Lists (listing_at file (take n P)) (Refused w) P er et
+  module _ (m : ℕ) (e : r ≡ ok m) (c : Out Totals) (q : c ≡ on (frame_of file) (λ f. ok (totals_of f))) where
+    pub places-frame : (w : Refusal) → c ≡ refused w → Lists (listing_at file (take n P)) (refused w) P er et
     unfolding listing_at
     places-frame w h =
         let a = rowed m e in
         lists-refused w (on_value (rows_in file (take n P)) _ a.rows a.all ∙ on-refused (frame_of file) _ w (frame-refusal-said file c q w h))
 
-    pub places-listed : (t : Totals) → c ≡ checked.Sound t → Lists (listing_at file (take n P)) (Rows n t.shapes) P er et
+    pub places-listed : (t : Totals) → c ≡ ok t → Lists (listing_at file (take n P)) (ok (record { hits = n; shapes = t.shapes })) P er et
     unfolding listing_at said_listed
     places-listed t h =
         let a = rowed m e in
@@ -137,33 +127,33 @@ module _ (file P : List ℕ) (n : ℕ) (dr dt er et : List ℕ) (hp : n ≤ leng
               ap₂ (λ (x y : List ℕ). ok (listing (take n P) x y t.shapes)) a.registers a.types
               ∙ ap (λ (x : ℕ). ok (listing_with (take n P) a.rows x)) shapes
               ∙ sym (on_value (rows_in file (take n P)) _ a.rows a.all ∙ on_value (frame_of file) _ f.0 f.1);
-          places_fit = λ hits shapes g. let z : n ≡ hits = cc in omega arith;
-          registers_fit = λ hits shapes g. let z : n ≡ hits = cc in omega (arith, a.registers_fit);
-          types_fit = λ hits shapes g. let z : n ≡ hits = cc in omega (arith, a.types_fit);
+          places_fit = λ x g. let z : n ≡ x.hits = ap (λ (y : Rows). y.hits) (ok-inj g) in omega arith;
+          registers_fit = λ x g. let z : n ≡ x.hits = ap (λ (y : Rows). y.hits) (ok-inj g) in omega (arith, a.registers_fit);
+          types_fit = λ x g. let z : n ≡ x.hits = ap (λ (y : Rows). y.hits) (ok-inj g) in omega (arith, a.types_fit);
         }
 
 -- ---- the search
 
-module _ (a : Ask) (file d P : List ℕ) (r : Filled) (f : Fills (search_of a file (length d)) d r P) (h : length d ≡ 4096) where
+module _ (a : Ask) (file d P : List ℕ) (r : Out ℕ) (f : Fills (search_of a file (length d)) d r P) (h : length d ≡ 4096) where
   searched : {A : Type 0} (g : Out (List ℕ) → A) → g (search_of a file (length d)) ≡ g (search_of a file 4096)
   searched g = ap (λ (k : ℕ). g (search_of a file k)) h
 
-  pub hits-refused : (w : Refusal) {er et : List ℕ} → r ≡ filled.Refused w → Lists (listing_for a file) (Refused w) P er et
+  pub hits-refused : (w : Refusal) {er et : List ℕ} → r ≡ refused w → Lists (listing_for a file) (refused w) P er et
   unfolding listing_for
   hits-refused w e =
-      let x = filled-refused _ d w P (subst (λ (q : Filled). Fills (search_of a file (length d)) d q P) e f) in
+      let x = filled-refused _ d w P (subst (λ (q : Out ℕ). Fills (search_of a file (length d)) d q P) e f) in
       lists-refused w (on-refused (search_of a file 4096) _ w (sym (searched (λ o. o)) ∙ x.0))
 
-  module _ (n : ℕ) (e : r ≡ filled.Start n) where
+  module _ (n : ℕ) (e : r ≡ ok n) where
     hits : (l : List ℕ) × (search_of a file (length d) ≡ ok l) × (n ≡ length l) × (P ≡ l ++ drop n d)
-    hits = filled-start _ d n P (subst (λ (q : Filled). Fills (search_of a file (length d)) d q P) e f)
+    hits = filled-start _ d n P (subst (λ (q : Out ℕ). Fills (search_of a file (length d)) d q P) e f)
 
     -- they lie within the room
     pub hits-fit : n ≤ length P
     hits-fit = let x = hits in omega (arith, x.2, ap length x.3, length-append x.0 (drop n d))
 
     -- what they list is listed
-    pub hits-listed : {says : Listed} {er et : List ℕ} → Lists (listing_at file (take n P)) says P er et → Lists (listing_for a file) says P er et
+    pub hits-listed : {says : Out Rows} {er et : List ℕ} → Lists (listing_at file (take n P)) says P er et → Lists (listing_for a file) says P er et
     unfolding listing_for
     hits-listed l =
         let x = hits in
@@ -194,35 +184,31 @@ module _ (input : List ℕ) where
 
 -- as the code is told
 module _ (input : List ℕ) (n : ℕ) where
-  pub behind-many : {P er et : List ℕ} → 40960 < length input - n → Lists (listing_behind input n) (Refused (because table.many)) P er et
+  pub behind-many : {P er et : List ℕ} → 40960 < length input - n → Lists (listing_behind input n) (refused (because table.many)) P er et
   behind-many k = lists-refused (because table.many) (size-many input n (omega (arith, length-drop n input)))
 
-  module _ (k : length input - n ≤ 40960) (r : AskRead) (q : said_ask r ≡ ask_of (take n input)) where
+  module _ (k : length input - n ≤ 40960) (r : Out Ask) (q : r ≡ ask_of (take n input)) where
     within : listing_behind input n ≡ on (ask_of (take n input)) (λ a. listing_for a (drop n input))
     within = size-within input n (omega (arith, length-drop n input))
 
-    pub behind-refused : (w : Refusal) {P er et : List ℕ} → r ≡ asked.Refused w → Lists (listing_behind input n) (Refused w) P er et
-    unfolding said_ask
-    behind-refused w e = lists-refused w (within ∙ on-refused (ask_of (take n input)) _ w (sym q ∙ ap said_ask e))
+    pub behind-refused : (w : Refusal) {P er et : List ℕ} → r ≡ refused w → Lists (listing_behind input n) (refused w) P er et
+    behind-refused w e = lists-refused w (within ∙ on-refused (ask_of (take n input)) _ w (sym q ∙ e))
 
     -- the file is all that stands behind the block
-    pub behind-asked : (a : Ask) {says : Listed} {P er et : List ℕ} → r ≡ asked.Asked a → Lists (listing_for a (take (length input - n) (drop n input))) says P er et
+    pub behind-asked : (a : Ask) {says : Out Rows} {P er et : List ℕ} → r ≡ ok a → Lists (listing_for a (take (length input - n) (drop n input))) says P er et
         → Lists (listing_behind input n) says P er et
-    unfolding said_ask
     behind-asked a e l =
         let all : take (length input - n) (drop n input) ≡ drop n input = take_all (length input - n) (drop n input) (omega (arith, length-drop n input)) in
-        lists-same (ap (listing_for a) all ∙ sym (within ∙ on_value (ask_of (take n input)) _ a (sym q ∙ ap said_ask e))) l
+        lists-same (ap (listing_for a) all ∙ sym (within ∙ on_value (ask_of (take n input)) _ a (sym q ∙ e))) l
 
-module _ (input : List ℕ) (r : BlockLen) (q : said_len r ≡ block_len input) where
-  pub input-refused : (w : Refusal) {P er et : List ℕ} → r ≡ len.Refused w → Lists (listing_of input) (Refused w) P er et
-  unfolding said_len
-  input-refused w e = lists-refused w (block_refused input w (sym q ∙ ap said_len e))
+module _ (input : List ℕ) (r : Out ℕ) (q : r ≡ block_len input) where
+  pub input-refused : (w : Refusal) {P er et : List ℕ} → r ≡ refused w → Lists (listing_of input) (refused w) P er et
+  input-refused w e = lists-refused w (block_refused input w (sym q ∙ e))
 
-  pub input-block : (n : ℕ) → r ≡ len.Is n → block_len input ≡ ok n
-  unfolding said_len
-  input-block n e = sym q ∙ ap said_len e
+  pub input-block : (n : ℕ) → r ≡ ok n → block_len input ≡ ok n
+  input-block n e = sym q ∙ e
 
-  pub input-listed : (n : ℕ) {says : Listed} {P er et : List ℕ} → r ≡ len.Is n → Lists (listing_behind input n) says P er et → Lists (listing_of input) says P er et
+  pub input-listed : (n : ℕ) {says : Out Rows} {P er et : List ℕ} → r ≡ ok n → Lists (listing_behind input n) says P er et → Lists (listing_of input) says P er et
   input-listed n e l = lists-same (sym (block-found input n (input-block n e))) l
 
 -- ---- what is listed

@@ -11,8 +11,7 @@ use Rattle.frame.specs.Frame.{frame_of, shapes_of}
 use Rattle.place.specs.declared.row.Row.{Row}
 use Rattle.place.specs.Rows.{rows_in}
 use Rattle.search.specs.Search.{search_of}
-use Rattle.list.specs.declared.listing.Listed.{Listed}
-use Rattle.list.specs.declared.listing.Listed.TheVariants.{Rows, Refused}
+use Rattle.list.specs.declared.listing.Rows.{Rows}
 
 -- "the listing program has room for 4,096 hits"
 abbrev pub most_hits : ℕ
@@ -66,13 +65,13 @@ pub record Rooms (places registers types : List ℕ) : Type 0 where
   pub for_types : length types ≡ most_hits
 
 -- what the code's answer says, with the three rooms
-unfoldable pub said_listed : Listed → List ℕ → List ℕ → List ℕ → Out Listing
-said_listed (Rows hits shapes) places registers types = ok (listing (take hits places) (take hits registers) (take hits types) shapes)
-said_listed (Refused w) places registers types = refused w
+unfoldable pub said_listed : Out Rows → List ℕ → List ℕ → List ℕ → Out Listing
+said_listed (ok r) places registers types = ok (listing (take r.hits places) (take r.hits registers) (take r.hits types) r.shapes)
+said_listed (refused w) places registers types = refused w
 
 -- the contract of such a call: it says the outcome o, and its hits lie within each room
-pub record Lists (o : Out Listing) (says : Listed) (places registers types : List ℕ) : Type 0 where
+pub record Lists (o : Out Listing) (says : Out Rows) (places registers types : List ℕ) : Type 0 where
   pub said : said_listed says places registers types ≡ o
-  pub places_fit : (hits shapes : ℕ) → says ≡ Rows hits shapes → hits ≤ length places
-  pub registers_fit : (hits shapes : ℕ) → says ≡ Rows hits shapes → hits ≤ length registers
-  pub types_fit : (hits shapes : ℕ) → says ≡ Rows hits shapes → hits ≤ length types
+  pub places_fit : (r : Rows) → says ≡ ok r → r.hits ≤ length places
+  pub registers_fit : (r : Rows) → says ≡ ok r → r.hits ≤ length registers
+  pub types_fit : (r : Rows) → says ≡ ok r → r.hits ≤ length types

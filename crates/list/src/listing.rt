@@ -6,21 +6,20 @@ ghost use Rattle.query.specs.Ask.{good_query};
 ghost use Rattle.query.specs.Block.{block_len};
 ghost use Rattle.list.specs.Listing.{listing_at, listing_for, listing_behind, listing_of, Rooms, Lists};
 
+use answer::Refusal;
 use answer::limits::MOST_INPUT;
 use answer::table::MANY;
-use answer::{Filled, Refusal};
-use frame::walk::{Checked, frame};
+use frame::walk::frame;
 use place::rows::rows;
 use query::ask::Ask;
-use query::query_block::{AskRead, BlockLen, ask_of, block_len};
+use query::query_block::{ask_of, block_len};
 use search::search::search_good;
 
-// How many hits, whose places, registers and types stand at the start of the three rooms, and how many shapes the file has in all; or
-// the refusal.
+// How many hits, whose places, registers and types stand at the start of the three rooms, and how many shapes the file has in all.
 #[derive(Clone, Copy)]
-pub enum Listed {
-    Rows(usize, usize),
-    Refused(Refusal),
+pub struct Rows {
+    pub hits: usize,
+    pub shapes: usize,
 }
 
 // Lists the first n places of a room, which are hits of a file: the registers and types there, and how many shapes the file has in all.
@@ -30,19 +29,18 @@ fn list_places(
     places: &[u32],
     registers: &mut [u32],
     types: &mut [u8],
-) -> Listed
+) -> Result<Rows, Refusal>
     requires n_in_bounds { n ≤ length places.now }
     requires n_in_bounds_2 { n ≤ length registers.old }
     requires n_in_bounds_3 { n ≤ length types.old }
     ensures { Lists (listing_at (came file) (take n (came places))) result (came places) (left registers) (left types) }
 {
-    match rows(file, &places[..n], registers, types) {
-        Filled::Start(_) => match frame(file) {
-            Checked::Sound(t) => Listed::Rows(n, t.shapes),
-            Checked::Refused(w) => Listed::Refused(w),
-        },
-        Filled::Refused(w) => Listed::Refused(w),
-    }
+    rows(file, &places[..n], registers, types)?;
+    let totals = frame(file)?;
+    Ok(Rows {
+        hits: n,
+        shapes: totals.shapes,
+    })
 }
 
 // Lists what a good query hits in a file.
@@ -52,15 +50,13 @@ fn list_hits(
     places: &mut [u32],
     registers: &mut [u32],
     types: &mut [u8],
-) -> Listed
+) -> Result<Rows, Refusal>
     requires query_value { good_query a.query ≡ true }
     requires rooms { Rooms places.old registers.old types.old }
     ensures { Lists (listing_for a (came file)) result (left places) (left registers) (left types) }
 {
-    match search_good(a, file, places) {
-        Filled::Start(n) => list_places(file, n, places, registers, types),
-        Filled::Refused(w) => Listed::Refused(w),
-    }
+    let n = search_good(a, file, places)?;
+    list_places(file, n, places, registers, types)
 }
 
 // Lists what an input asks, whose query block takes so many bytes.
@@ -70,18 +66,16 @@ fn list_behind(
     places: &mut [u32],
     registers: &mut [u32],
     types: &mut [u8],
-) -> Listed
+) -> Result<Rows, Refusal>
     requires input_value { block_len input.now ≡ ok len }
     requires rooms { Rooms places.old registers.old types.old }
     ensures { Lists (listing_behind (came input) len) result (left places) (left registers) (left types) }
 {
     if MOST_INPUT < input.len() - len {
-        return Listed::Refused(Refusal::because(MANY));
+        return Err(Refusal::because(MANY));
     }
-    match ask_of(&input[..len]) {
-        AskRead::Asked(a) => list_hits(a, &input[len..], places, registers, types),
-        AskRead::Refused(w) => Listed::Refused(w),
-    }
+    let a = ask_of(&input[..len])?;
+    list_hits(a, &input[len..], places, registers, types)
 }
 
 // Lists what an input asks, any bytes.
@@ -90,12 +84,10 @@ pub fn list_input(
     places: &mut [u32],
     registers: &mut [u32],
     types: &mut [u8],
-) -> Listed
+) -> Result<Rows, Refusal>
     requires { Rooms places.old registers.old types.old }
     ensures { Lists (listing_of (came input)) result (left places) (left registers) (left types) }
 {
-    match block_len(input) {
-        BlockLen::Is(len) => list_behind(input, len, places, registers, types),
-        BlockLen::Refused(w) => Listed::Refused(w),
-    }
+    let len = block_len(input)?;
+    list_behind(input, len, places, registers, types)
 }

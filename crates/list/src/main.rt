@@ -6,7 +6,7 @@ mod listing;
 mod print;
 mod rows;
 
-use input::{Input, read_input};
+use input::read_input;
 use print::print;
 use told::fail;
 
@@ -14,10 +14,10 @@ use told::fail;
 fn main(rt: HostRuntime) {
     let mut bytes = [0u8; 40999];
     match read_input(&mut rt.stdin(), &mut bytes) {
-        Input::Is(n) => {
+        Ok(n) => {
             print(&rt, &bytes[..n]);
         }
-        Input::Broken(why) => {
+        Err(why) => {
             fail(&rt, "list: standard input", why);
         }
     }

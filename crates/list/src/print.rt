@@ -7,7 +7,7 @@ ghost use Rattle.text.specs.Stretch.{Stretch};
 ghost use Rattle.list.specs.Listing.{listing, listing_of};
 ghost use Rattle.list.specs.Printed.{printed_of};
 
-use crate::listing::{Listed, list_input};
+use crate::listing::list_input;
 use crate::rows::put_rows;
 use answer::Refusal;
 use std::io::{Eprint, Print};
@@ -60,17 +60,6 @@ fn say_refused(rt: &(impl Print + Eprint), input: &[u8], w: Refusal, k: &mut usi
     write(rt, input, &out[..n], true, k);
 }
 
-// Where a stretch ends that begins at row i of n.
-fn stretch_end(i: usize, n: usize) -> usize
-    requires { i < n }
-    ensures { (i < result) × (result ≤ n) × (result ≤ i + 512) }
-{
-    if n - i < STRETCH {
-        return n;
-    }
-    i + STRETCH
-}
-
 // The rows, stretch by stretch, and the last line.
 fn say_rows(
     rt: &(impl Print + Eprint),
@@ -90,12 +79,11 @@ fn say_rows(
     let hits = places.len();
     let mut out = [0u8; 32256];
     let mut taken = true;
-    let mut i: usize = 0;
-    while i < hits {
-        let e = stretch_end(i, hits);
+    for stretch in 0..hits.div_ceil(STRETCH) {
+        let i = stretch * STRETCH;
+        let e = (i + STRETCH).min(hits);
         let n = put_rows(&mut out, &places[i..e], &registers[i..e], &types[i..e]);
         taken = write(rt, input, &out[..n], taken, k);
-        i = e;
     }
     let n = put_hits(&mut out, 0, hits, shapes);
     write(rt, input, &out[..n], taken, k);
@@ -110,18 +98,18 @@ pub fn print(rt: &(impl Print + Eprint), input: &[u8]) -> Printed
     let mut registers = [0u32; 4096];
     let mut types = [0u8; 4096];
     match list_input(input, &mut places, &mut registers, &mut types) {
-        Listed::Rows(hits, shapes) => {
+        Ok(r) => {
             say_rows(
                 rt,
                 input,
-                &places[..hits],
-                &registers[..hits],
-                &types[..hits],
-                shapes,
+                &places[..r.hits],
+                &registers[..r.hits],
+                &types[..r.hits],
+                r.shapes,
                 &mut p.k,
             );
         }
-        Listed::Refused(w) => {
+        Err(w) => {
             say_refused(rt, input, w, &mut p.k);
         }
     }

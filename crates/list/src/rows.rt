@@ -15,10 +15,8 @@ pub fn put_rows(out: &mut [u8], places: &[u32], registers: &[u32], types: &[u8])
     ensures prefix_len { IsPrefixLen result out.new }
 {
     let mut at: usize = 0;
-    let mut i: usize = 0;
-    while i < places.len() {
-        at = put_row(out, at, places[i], registers[i], types[i]);
-        i += 1;
+    for (i, place) in places.iter().enumerate() {
+        at = put_row(out, at, *place, registers[i], types[i]);
     }
     at
 }

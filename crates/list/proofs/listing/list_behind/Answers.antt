@@ -2,6 +2,7 @@
 use mathlib.Core.Path.{sym}
 use native.Mathlib.Omega.{arith}
 use lib.Seq.{length-take-le}
+use Rattle.answer.proofs.Outcomes.{handed-on}
 use Rattle.query.proofs.Good.{len-fits, read-sound}
 use Rattle.list.proofs.Listings.{behind-many, behind-refused, behind-asked}
 use Rattle.list.proofs.listing.list_behind.Goals as goal
@@ -22,12 +23,13 @@ pub slice_bounds-list_hits-start : goal.slice_bounds-list_hits-start
 slice_bounds-list_hits-start c = len-fits c.args.input.now c.args.len c.requires.input_value
 
 pub list_hits-requires : goal.list_hits-requires
-list_hits-requires c = record { query_value = read-sound _ _ c.in-Asked.a c.ask_of.ensures c.in-Asked.is; rooms = c.requires.rooms }
+list_hits-requires c = record { query_value = read-sound _ _ c.in_ok-a.a c.ask_of.ensures c.in_ok-a.was; rooms = c.requires.rooms }
 
-pub returns-in-Asked : goal.returns-in-Asked
-returns-in-Asked c =
-    behind-asked c.args.input.now c.args.len (omega (arith, c.if-input-len-gt-MOST_INPUT.false)) _ c.ask_of.ensures _ c.in-Asked.is c.list_hits.ensures
+pub returns : goal.returns
+returns c =
+    behind-asked c.args.input.now c.args.len (omega (arith, c.if-input-len-gt-MOST_INPUT.false)) _ c.ask_of.ensures _ c.in_ok-a.was c.list_hits.ensures
 
-pub returns-in-Refused : goal.returns-in-Refused
-returns-in-Refused c =
-    behind-refused c.args.input.now c.args.len (omega (arith, c.if-input-len-gt-MOST_INPUT.false)) _ c.ask_of.ensures _ c.in-Refused.is
+pub returns-in_err-a : goal.returns-in_err-a
+returns-in_err-a c =
+    rw (handed-on c.from_residual.ensures.1)
+    (behind-refused c.args.input.now c.args.len (omega (arith, c.if-input-len-gt-MOST_INPUT.false)) _ c.ask_of.ensures _ c.in_err-a.was)

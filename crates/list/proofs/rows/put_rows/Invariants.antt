@@ -1,11 +1,6 @@
 -- `list::rows::put_rows` puts row after row, each where the one before it ends. Nothing is assumed.
-use Prim.Native.Nat.{◌-◌}
-use lib.ListN.{length}
 use Rattle.list.proofs.Rowing.{Rowing}
 use Rattle.list.proofs.rows.put_rows.Given as goal
 
 abbrev pub invariant-loop-i : goal.invariant-loop-i
 invariant-loop-i l = Rowing l.initial.out l.places l.registers l.types l.out l.at l.i
-
-abbrev pub decreases-loop-i : goal.decreases-loop-i
-decreases-loop-i l = length l.places - l.i
