@@ -20,7 +20,10 @@ pub(crate) struct Plan {
 
 // The plan of a page of these lists.
 pub(crate) fn plan_of(edition: usize, lists: PageLists) -> Plan
-    requires { (length lists.registers.now ≤ most_page_shapes) × (length lists.lens.now ≤ vertex_limit) × (length lists.xs.now ≤ vertex_limit) × (length lists.ys.now ≤ vertex_limit) }
+    requires shapes { length lists.registers.now ≤ most_page_shapes }
+    requires parts { length lists.lens.now ≤ vertex_limit }
+    requires vertices { length lists.xs.now ≤ vertex_limit }
+    requires even { length lists.ys.now ≤ vertex_limit }
     ensures edition { result.edition ≡ edition }
     ensures layout { result.layout ≡ layout_of edition (length lists.entry.registers.now) (length lists.entry.lens.now) }
     ensures columns { Sized lists.entry.xs.now result.x × Sized lists.entry.ys.now result.y }

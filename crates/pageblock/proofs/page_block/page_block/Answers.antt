@@ -21,7 +21,7 @@ plan_of-plan-requires c =
     let p = rules-passed _ _ (sym c.page_rules.ensures ∙ c.in_ok-page_rules.was) in
     let s = passed-sound _ p in
     let v = even-limits _ p.even in
-    (v.few, omega (arith, v.parts, v.vertices), s.few, omega (arith, s.same, s.few))
+    record { shapes = v.few; parts = omega (arith, v.parts, v.vertices); vertices = s.few; even = omega (arith, s.same, s.few) }
 
 -- the plan is that of the page
 plan_is : (c : After-plan_of-plan) → Planned (handed_of c.args.lists) c.plan_of-plan.result

@@ -15,9 +15,9 @@ few c =
     omega (
       arith,
       ap (λ (l : Layout). l.columns) c.layout_of-layout.ensures,
-      columns-le c.args.edition _ _ q.0 q.1,
-      column-most _ q.2,
-      column-most _ q.3,
+      columns-le c.args.edition _ _ q.shapes q.parts,
+      column-most _ q.vertices,
+      column-most _ q.even,
       c.fit-x.ensures.1,
       c.fit-y.ensures.1,
     )
