@@ -15,8 +15,8 @@
  * Threads. There is no global state. Threads may call at the same time, as long as none writes to what another lends meanwhile.
  *
  * Stack. As measured on x86-64 by tests/cface/stack.c (measured on some inputs, not proved): the search takes about 70 KiB of its thread's stack, the
- * fetch about 40 KiB, the full check and the count about 38 KiB, the column read about 17 KiB, the page call less than 4 KiB, each other call less than
- * 2 KiB. BOUNDARY_STACK is more than the greatest of these.
+ * fetch about 40 KiB, the full check and the count about 38 KiB, the column read about 17 KiB, each other call less than 2 KiB. BOUNDARY_STACK is more
+ * than the greatest of these.
  *
  * The answer of every call is one word. Bits 32 to 39 are the number of a refusal, 0 if there is none. Then bits 0 to 31 are what the call says, and
  * all others are 0. Else bits 0 to 31 are the page, from 0, that the refusal concerns, and 0 if it concerns none; bits 40 and 41 the column of that

@@ -5,7 +5,7 @@ use mathlib.Core.List.{List, [], ◌∷◌, ◌++◌, append-nil, append_assoc}
 use native.Mathlib.Nat.{mod-eq_of_lt}
 use native.Mathlib.Numerals.{add-one}
 use native.Mathlib.Omega.{arith}
-use lib.ListN.{length, length-append, get_or, take, drop}
+use lib.ListN.{length, length-append, get_or, set, take, drop}
 use lib.Seq.{take_all, drop-length, take-suc, length-take-le, sets}
 use Rattle.le.proofs.Bytes.{length-bytes_of, number-at-append, number-at-bytes_of}
 use Rattle.le.proofs.Stores.{sets-append}
@@ -65,6 +65,14 @@ run_more k xs d t u at i h e f =
     ∙ ap₂ (λ (l : List ℕ) (j : ℕ). sets l j (bytes_of k (get_or xs i 0))) e n
     ∙ sym (sets-append a (bytes_of k (get_or xs i 0)) d at)
     ∙ ap (sets d at) (sym g ∙ ap (run_of k) (sym (take-suc xs i 0 h) ∙ ap (λ (j : ℕ). take j xs) (sym (add-one i))))
+
+-- byte i put behind those before it
+pub bytes-more : (xs d t : List ℕ) (at i : ℕ) → i < length xs → t ≡ sets d at (take i xs) → set t (at + i) (get_or xs i 0) ≡ sets d at (take (i + 1) xs)
+bytes-more xs d t at i h e =
+    let n : at + i ≡ at + length (take i xs) = omega (arith, length-take-le i xs (omega arith)) in
+    ap₂ (λ (l : List ℕ) (j : ℕ). set l j (get_or xs i 0)) e n
+    ∙ sym (sets-append (take i xs) (get_or xs i 0 ∷ []) d at)
+    ∙ ap (sets d at) (sym (take-suc xs i 0 h) ∙ ap (λ (j : ℕ). take j xs) (sym (add-one i)))
 
 -- a run behind other bytes
 pub numbers-append : (k n : ℕ) (a s : List ℕ) (at : ℕ) → numbers_at k n (a ++ s) (length a + at) ≡ numbers_at k n s at

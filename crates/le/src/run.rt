@@ -70,7 +70,10 @@ pub fn put_bytes(d: &mut [u8], at: usize, xs: &[u8])
     requires { at + length xs.now ≤ length d.old }
     ensures { d.new ≡ sets d.old at xs.now }
 {
-    d[at..at + xs.len()].copy_from_slice(xs);
+    // no `copy_from_slice`: it would have the archive for C ask for `memmove`
+    for (i, x) in xs.iter().enumerate() {
+        d[at + i] = *x;
+    }
 }
 
 // Copies a list to the start of a room; the rest stays.
