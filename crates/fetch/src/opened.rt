@@ -12,7 +12,7 @@ use crate::fetch::Found;
 use answer::Refusal;
 use answer::table::ROOM;
 use le::run::copy_to_start;
-use page::open::open;
+use page::open::open_in;
 use page::scratch::Scratch;
 use place::row::{Row, row_at};
 use place::seek::SeatAt;
@@ -72,7 +72,7 @@ pub(crate) fn opened(
     ensures { FetchesIn (λ k. on (shape_of (seat_at s.now t)) (in_rooms k)) lens xs ys result }
 {
     let mut scratch = Scratch::new();
-    let p = open(s, t.at, &mut scratch)?;
+    let p = open_in(s, t.at, &mut scratch)?;
     let r = row_at(s, p, t.index);
     let v = p.head.v;
     let page_lens = &scratch.lens[..p.head.p];

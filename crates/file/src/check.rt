@@ -10,7 +10,7 @@ use answer::Refusal;
 use frame::cursor::Cursor;
 use frame::read::at_end;
 use frame::walk::{Totals, frame};
-use page::open::open;
+use page::open::open_in;
 use page::scratch::Scratch;
 
 // The contents of each page from a cursor to the end. The frame has passed.
@@ -20,7 +20,7 @@ fn pages_hold(s: &[u8], from: Cursor, scratch: &mut Scratch) -> Result<(), Refus
 {
     let mut c = from;
     while !at_end(s, c) {
-        let p = open(s, c, scratch)?;
+        let p = open_in(s, c, scratch)?;
         c = p.next;
     }
     Ok(())

@@ -2,9 +2,10 @@
 -- Assumes nothing.
 use Prim.Native.Nat.{ℕ, ◌+◌, ◌-◌, ◌≤◌}
 use mathlib.Core.Path.{◌≡◌, sym, ap, ap₂, subst, ◌∙◌}
-use mathlib.Core.List.{List}
+use mathlib.Core.List.{List, ◌++◌}
 use native.Mathlib.Omega.{arith}
 use lib.ListN.{length, take, drop}
+use lib.Seq.{length-take-le, take_at}
 use Rattle.answer.specs.declared.Refusal.{Refusal}
 use Rattle.answer.specs.Refusal.{on_page}
 use Rattle.answer.specs.Outcome.{Out, refused, ok, on}
@@ -13,6 +14,7 @@ use Rattle.answer.proofs.Outcomes.{never, ok-inj, refused-inj, marked_refused, m
 use Rattle.answer.proofs.Rules.{refused-passed}
 use Rattle.frame.specs.declared.cursor.Cursor.{Cursor}
 use Rattle.frame.specs.declared.cursor.PageAt.{PageAt}
+use Rattle.frame.specs.declared.head.Head.{Head}
 use Rattle.frame.specs.Next.{page, part, next_of}
 use Rattle.frame.proofs.Counts.{Limits}
 use Rattle.frame.proofs.Heads.{head-is, head-limits}
@@ -22,11 +24,14 @@ use Rattle.frame.proofs.Parts.{length_part, part_in}
 use Rattle.shape.specs.Outline.{Shape}
 use Rattle.page.specs.Contents.{types_of, contents_of}
 use Rattle.page.specs.declared.scratch.Scratch.{Scratch}
+use Rattle.page.specs.Loaded.{Loaded}
 use Rattle.page.specs.Opened.{contents_in, InScratch, Opens}
 use Rattle.answer.proofs.Orders.{on-refused, on_value}
 use Rattle.page.proofs.Loading.{head-stands}
+use Rattle.page.proofs.Vertices.{vertices-long}
+use Rattle.page.proofs.Contained.{counts-long, lens-long}
 
--- ---- the page in the file
+-- ---- the page in the file, and the start of its rooms
 
 -- what a page's head says of its counts
 pub limits_of : (s : List ℕ) (c : Cursor) (p : PageAt) → next_of s c ≡ ok (page p) → Limits p.head.g p.head.v p.head.p
@@ -51,6 +56,22 @@ module _ (s : List ℕ) (c : Cursor) (p : PageAt) (e : next_of s c ≡ ok (page 
   types-in from to d f =
       let z : to - from ≡ p.head.g = omega arith in
       ap₂ (λ (n at : ℕ). take n (drop at s)) z d ∙ sym (part_in s p.body p.len p.head.layout.types p.head.g types-there)
+
+-- the first n of a room that has room for them
+pub first_of : (n k : ℕ) (l : List ℕ) → length l ≡ k → n ≤ k → n ≡ length (take n l)
+first_of n k l e h = sym (length-take-le n l (omega arith))
+
+-- lists that are loaded into the start of rooms stand there
+pub loaded-first : (h : Head) (b counts lens xs ys counts₀ lens₀ xs₀ ys₀ : List ℕ) → Loaded h b counts lens xs ys
+    → Loaded h b (take h.g (counts ++ drop h.g counts₀)) (take h.p (lens ++ drop h.p lens₀)) (take h.v (xs ++ drop h.v xs₀)) (take h.v (ys ++ drop h.v ys₀))
+loaded-first h b counts lens xs ys counts₀ lens₀ xs₀ ys₀ y =
+    let v = vertices-long h b xs ys y.vertices in
+    rw (
+      take_at counts (drop h.g counts₀) h.g (ap length y.counts_are ∙ counts-long h b),
+      take_at lens (drop h.p lens₀) h.p (ap length y.lens_are ∙ lens-long h b),
+      take_at xs (drop h.v xs₀) h.v v.0,
+      take_at ys (drop h.v ys₀) h.v v.1,
+    ) y
 
 -- ---- what the call says
 

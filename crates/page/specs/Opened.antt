@@ -1,5 +1,6 @@
 -- A page of a file that was opened into a scratch that serves every page: for inner walks; no service speaks of it. Assumes nothing.
-use Rattle.std.specs.Prelude.{ℕ, ◌≡◌, List, take}
+use Rattle.std.specs.Prelude.{ℕ, ◌≡◌, List, length, take}
+use Rattle.answer.specs.Limits.{vertex_limit, most_page_shapes}
 use Rattle.answer.specs.Outcome.{Out, ok, on, in_page}
 use Rattle.frame.specs.declared.cursor.Cursor.{Cursor}
 use Rattle.frame.specs.declared.cursor.PageAt.{PageAt}
@@ -8,6 +9,13 @@ use Rattle.shape.specs.Outline.{Shape}
 use Rattle.page.specs.Contents.{contents_of}
 use Rattle.page.specs.declared.scratch.Scratch.{Scratch}
 use Rattle.page.specs.Loaded.{Loaded}
+
+-- four rooms for a whole page: room for the most shapes, parts and vertices that a page has, as a scratch has it
+pub record Rooms (counts lens xs ys : List ℕ) : Type 0 where
+  pub for_counts : length counts ≡ most_page_shapes
+  pub for_lens : length lens ≡ vertex_limit
+  pub for_xs : length xs ≡ vertex_limit
+  pub for_ys : length ys ≡ vertex_limit
 
 -- the contents of a page of the file s, which is page k; a refusal has that page
 abbrev pub contents_in : List ℕ → ℕ → PageAt → Out (List Shape)

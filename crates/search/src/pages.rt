@@ -15,7 +15,7 @@ use crate::hits::shapes_hit;
 use answer::Refusal;
 use frame::cursor::Cursor;
 use frame::read::{at_end, glance};
-use page::open::open;
+use page::open::open_in;
 use page::scratch::Scratch;
 use query::ask::{Ask, opens};
 use shape::lists::Lists;
@@ -33,20 +33,25 @@ fn page_hits(
     requires c_value { (p : PageAt) × (next_of s.now c ≡ ok (page p)) }
     ensures { PageMeets a s.now c result flags.old flags.new }
 {
-    let p = open(s, c, scratch)?;
-    let g = p.head.g;
-    let m = p.head.p;
-    let v = p.head.v;
-    let from = p.body + p.head.layout.types;
-    let to = from + g;
-    let lists = Lists {
-        types: &s[from..to],
-        counts: &scratch.counts[..g],
-        lens: &scratch.lens[..m],
-        xs: &scratch.xs[..v],
-        ys: &scratch.ys[..v],
-    };
-    Ok(shapes_hit(a, c.shapes, lists, flags))
+    // no `?`, as in `walk_hits` below
+    match open_in(s, c, scratch) {
+        Ok(p) => {
+            let g = p.head.g;
+            let m = p.head.p;
+            let v = p.head.v;
+            let from = p.body + p.head.layout.types;
+            let to = from + g;
+            let lists = Lists {
+                types: &s[from..to],
+                counts: &scratch.counts[..g],
+                lens: &scratch.lens[..m],
+                xs: &scratch.xs[..v],
+                ys: &scratch.ys[..v],
+            };
+            Ok(shapes_hit(a, c.shapes, lists, flags))
+        }
+        Err(w) => Err(w),
+    }
 }
 
 // The next page that the query meets, from a cursor on, or the end. The others are passed by at a glance.
@@ -79,9 +84,15 @@ pub(crate) fn walk_hits(
     let mut c = next_met(a, s, from);
     let mut found: usize = 0;
     while !at_end(s, c) {
-        found += page_hits(a, s, c, scratch, flags)?;
-        let l = glance(s, c);
-        c = next_met(a, s, l.next);
+        // no `?`: the answer would go through memory piece by piece, and counting a page of one empty shape took 1.4 times as long
+        match page_hits(a, s, c, scratch, flags) {
+            Ok(n) => {
+                found += n;
+                let l = glance(s, c);
+                c = next_met(a, s, l.next);
+            }
+            Err(w) => return Err(w),
+        }
     }
     Ok(found)
 }

@@ -16,18 +16,18 @@ use Rattle.fetch.proofs.opened.opened.Goals as goal
 pub returns-in_err-p : goal.returns-in_err-p
 returns-in_err-p c =
     rw (handed-on c.from_residual.ensures.1)
-    (fetches-refused _ (seat-bad _ _ _ (opened-refused _ _ _ _ c.«open».ensures c.args.t.page c.requires.at_value _ c.in_err-p.was)))
+    (fetches-refused _ (seat-bad _ _ _ (opened-refused _ _ _ _ c.open_in.ensures c.args.t.page c.requires.at_value _ c.in_err-p.was)))
 
 -- what the head of the page that was opened says of its counts, and that the shape is one of the page's
 limits : (c : In_ok-p) → Limits c.in_ok-p.p.head.g c.in_ok-p.p.head.v c.in_ok-p.p.head.p
-limits c = limits_of _ _ _ (c.«open».ensures.lists _ c.in_ok-p.was).0
+limits c = limits_of _ _ _ (c.open_in.ensures.lists _ c.in_ok-p.was).0
 
 within : (c : In_ok-p) → c.args.t.index < c.in_ok-p.p.head.g
-within c = index-within _ _ _ c.requires.at_value (c.«open».ensures.lists _ c.in_ok-p.was).0 c.requires.index_lt_g
+within c = index-within _ _ _ c.requires.at_value (c.open_in.ensures.lists _ c.in_ok-p.was).0 c.requires.index_lt_g
 
 pub row_at-r-requires : goal.row_at-r-requires
 row_at-r-requires c =
-    let k = page-is _ _ _ (c.«open».ensures.lists _ c.in_ok-p.was).0 in
+    let k = page-is _ _ _ (c.open_in.ensures.lists _ c.in_ok-p.was).0 in
     (k.stands.fits, (c.args.t.at.edition, k.headed), within c)
 
 pub shared_ref_as_front-page_lens : goal.shared_ref_as_front-page_lens
@@ -39,7 +39,7 @@ shared_ref_as_front-span_of c = (limits (goal.at.shared_ref_as_front-span_of c).
 pub span_of-q-requires : goal.span_of-q-requires
 span_of-q-requires c =
     let i = (goal.at.span_of-q-requires c).In_ok-p in
-    let r = loaded-spans _ _ _ _ _ _ (c.«open».ensures.lists _ c.in_ok-p.was).1 _ (within i) (limits i).vertices in
+    let r = loaded-spans _ _ _ _ _ _ (c.open_in.ensures.lists _ c.in_ok-p.was).1 _ (within i) (limits i).vertices in
     record { i_in_bounds = r.0; counts_value = r.1; lens_len_bound = (r.2, r.3) }
 
 pub shared_ref_as_front-put_shape : goal.shared_ref_as_front-put_shape
@@ -51,7 +51,7 @@ shared_ref_as_front-put_shape-2 c = (limits (goal.at.shared_ref_as_front-put_sha
 pub put_shape-requires : goal.put_shape-requires
 put_shape-requires c =
     let i = (goal.at.put_shape-requires c).In_ok-p in
-    let o = (c.«open».ensures.lists _ c.in_ok-p.was).1 in
+    let o = (c.open_in.ensures.lists _ c.in_ok-p.was).1 in
     let r = loaded-spans _ _ _ _ _ _ o _ (within i) (limits i).vertices in
     let v = loaded-vertices _ _ _ _ _ _ o in
     let x = span-parts _ _ _ r.0 r.1 in
@@ -61,7 +61,7 @@ put_shape-requires c =
 pub returns : goal.returns
 returns c =
     let i = (goal.at.returns c).In_ok-p in
-    let o = c.«open».ensures.lists _ c.in_ok-p.was in
+    let o = c.open_in.ensures.lists _ c.in_ok-p.was in
     let r = rooms_of c.args.lens.now c.args.xs.now c.args.ys.now in
     rw (seat-page _ _ _ r c.requires.at_value o.0 ∙ loaded-shape _ _ _ _ _ _ o.1 _ _ _ _ r (within i) c.row_at-r.ensures c.span_of-q.ensures)
     c.put_shape.ensures

@@ -13,19 +13,19 @@ loop-c-init c = record { ahead = c.requires; same = refl }
 pub at_end-requires : goal.at_end-requires
 at_end-requires c = ahead-next _ _ _ c.loop-c.invariant.ahead.1
 
-pub open-requires : goal.open-requires
-open-requires c =
+pub open_in-requires : goal.open_in-requires
+open_in-requires c =
     let g = c.loop-c.invariant.ahead.1 in
     record { within = g.within; c_value = ahead-go _ _ _ g (sym c.at_end.ensures ∙ not-true _ c.loop-c-test.true-raw) }
 
 pub loop-c-smaller : goal.loop-c-smaller
 loop-c-smaller c =
-    let o = c.«open».ensures.lists c.in_ok-p.p c.in_ok-p.was in
+    let o = c.open_in.ensures.lists c.in_ok-p.p c.in_ok-p.was in
     going-fewer _ _ _ c.loop-c.invariant _ o.0
 
 pub loop-c-preserved : goal.loop-c-preserved
 loop-c-preserved c =
-    let o = c.«open».ensures.lists c.in_ok-p.p c.in_ok-p.was in
+    let o = c.open_in.ensures.lists c.in_ok-p.p c.in_ok-p.was in
     going_on _ _ _ c.loop-c.invariant _ o.0 _ o.1.shapes
 
 pub returns-in_err-p : goal.returns-in_err-p
@@ -33,7 +33,7 @@ returns-in_err-p c =
     let g = c.loop-c.invariant in
     let p = ahead-go _ _ _ g.ahead.1 (sym c.at_end.ensures ∙ not-true _ c.loop-c-test.true-raw) in
     handed-on c.from_residual.ensures.1
-    ∙ going-refused _ _ _ g p.0 p.1 _ (opened-refused _ _ _ _ c.«open».ensures p.0 p.1 _ c.in_err-p.was)
+    ∙ going-refused _ _ _ g p.0 p.1 _ (opened-refused _ _ _ _ c.open_in.ensures p.0 p.1 _ c.in_err-p.was)
 
 pub returns : goal.returns
 returns c =

@@ -1,4 +1,4 @@
--- `page::open::open` cuts the page at the cursor from the file, loads it into the scratch, and gives a refusal its page. Assumes nothing.
+-- `page::open::open` cuts the page at the cursor from the file, loads it into the rooms, and gives a refusal its page. Assumes nothing.
 use mathlib.Core.Path.{sym, ◌∙◌}
 use native.Mathlib.Omega.{arith}
 use Rattle.answer.specs.Refusal.{on_page}
@@ -18,7 +18,7 @@ slice_bounds-load_first-end c =
 pub load_first-held-requires : goal.load_first-held-requires
 load_first-held-requires c =
     let p = c.page_at-p.result in
-    (c.args.c.edition, rw (part_of c.args.s.now p.body p.len) (page-is _ _ _ c.page_at-p.ensures).headed)
+    record { by_index = (c.args.c.edition, rw (part_of c.args.s.now p.body p.len) (page-is _ _ _ c.page_at-p.ensures).headed); rooms = c.requires.rooms }
 
 pub overflow_cast-c : goal.overflow_cast-c
 overflow_cast-c c = let w = c.requires.within in record { fits = omega (arith, w.pages, w.shapes) }
