@@ -55,9 +55,14 @@ fn through(s: &[u8], n: usize, scratch: &mut [u64], out: &mut [u64]) -> Result<u
     requires { (n ≤ vertex_limit) × (n ≤ length scratch.old) × (n ≤ length out.old) }
     ensures { Fills (decode_of 64 s.now n) out.old result out.new }
 {
-    let k = decode(s, n, scratch)?;
-    copy(scratch, n, out);
-    Ok(k)
+    // no `?`: the answer would go through memory piece by piece, and reading a few values took up to four times as long
+    match decode(s, n, scratch) {
+        Ok(k) => {
+            copy(scratch, n, out);
+            Ok(k)
+        }
+        Err(w) => Err(w),
+    }
 }
 
 // Where the entries of one or two values end, and the second value; a is the first.

@@ -3,7 +3,6 @@
 use mathlib.Core.Path.{sym, ap, ◌∙◌}
 use native.Mathlib.Omega.{arith}
 use borrow.Author.Tests.{not-true, not-false}
-use Rattle.answer.proofs.Outcomes.{handed-on}
 use Rattle.frame.specs.declared.cursor.Glance.{Glance}
 use Rattle.frame.proofs.Ahead.{ahead-next, ahead-stop, ahead-go, ahead-page}
 use Rattle.search.proofs.Opened.{opened-meets}
@@ -33,15 +32,15 @@ overflow_add-found c =
     let args = c.args in
     let loop = c.loop-a in
     let p = ahead-go _ _ _ loop.invariant.0.ahead (sym c.at_end.ensures ∙ not-true _ c.loop-a-test.true-raw) in
-    omega (arith, meeting-fits args.a args.s.now args.flags.now loop.c loop.found loop.flags loop.invariant.0 p.0 p.1 _ _ (opened-meets args.a loop.c.pages loop.c.shapes _ _ _ (loop.invariant.1 p.0 p.1) (c.page_hits.ensures p.0 p.1)) _ c.in_ok-found.was)
+    omega (arith, meeting-fits args.a args.s.now args.flags.now loop.c loop.found loop.flags loop.invariant.0 p.0 p.1 _ _ (opened-meets args.a loop.c.pages loop.c.shapes _ _ _ (loop.invariant.1 p.0 p.1) (c.page_hits.ensures p.0 p.1)) c.in-Ok.n c.in-Ok.is)
 
 pub glance-l-requires : goal.glance-l-requires
 glance-l-requires c =
     let loop = c.loop-a in
     (loop.invariant.0.ahead.within.shapes, ahead-go _ _ _ loop.invariant.0.ahead (sym c.at_end.ensures ∙ not-true _ c.loop-a-test.true-raw))
 
-pub next_met-c-requires-in-loop-a : goal.next_met-c-requires-in-loop-a
-next_met-c-requires-in-loop-a c =
+pub next_met-c-requires-in-Ok : goal.next_met-c-requires-in-Ok
+next_met-c-requires-in-Ok c =
     let pre = c.requires in
     let loop = c.loop-a in
     let p = c.glance-l.ensures in
@@ -53,7 +52,7 @@ loop-a-smaller c =
     let args = c.args in
     let loop = c.loop-a in
     let p = c.glance-l.ensures in
-    let k = c.next_met-c-in-loop-a.ensures.skipping.onward in
+    let k = c.next_met-c-in-Ok.ensures.skipping.onward in
     let q = ap (λ (x : Glance). x.next.pages) p.2 in
     let l = meeting-fewer args.a args.s.now args.flags.now loop.c loop.found loop.flags loop.invariant.0 p.0 p.1 in
     omega (arith, k, q, l)
@@ -64,23 +63,23 @@ loop-a-preserved c =
     let loop = c.loop-a in
     let p = c.glance-l.ensures in
     let v = loop.invariant in
-    let k = c.next_met-c-in-loop-a.ensures in
-    let more = meeting-more args.a args.s.now args.flags.now loop.c loop.found loop.flags loop.invariant.0 p.0 p.1 _ _ (opened-meets args.a loop.c.pages loop.c.shapes _ _ _ (loop.invariant.1 p.0 p.1) (c.page_hits.ensures p.0 p.1)) _ c.in_ok-found.was c.flags-1.given in (
+    let k = c.next_met-c-in-Ok.ensures in
+    let more = meeting-more args.a args.s.now args.flags.now loop.c loop.found loop.flags loop.invariant.0 p.0 p.1 _ _ (opened-meets args.a loop.c.pages loop.c.shapes _ _ _ (loop.invariant.1 p.0 p.1) (c.page_hits.ensures p.0 p.1)) c.in-Ok.n c.in-Ok.is c.flags-1.given in (
       meeting-skip _ _ _ _ _ _ _ (rw (ap (λ (x : Glance). x.next) p.2) more) k.skipping,
       k.opened,
     )
 
-pub shape_of-flags-in_err-found : goal.shape_of-flags-in_err-found
-shape_of-flags-in_err-found c =
+pub shape_of-flags-in-Err : goal.shape_of-flags-in-Err
+shape_of-flags-in-Err c =
     let loop = c.loop-a in
     c.flags-1.given ∙ loop.invariant.0.long
 
-pub returns-in_err-found : goal.returns-in_err-found
-returns-in_err-found c =
+pub returns-in-Err : goal.returns-in-Err
+returns-in-Err c =
     let args = c.args in
     let loop = c.loop-a in
     let p = ahead-go _ _ _ loop.invariant.0.ahead (sym c.at_end.ensures ∙ not-true _ c.loop-a-test.true-raw) in
-    rw (handed-on c.from_residual.ensures.1) (meeting-refused args.a args.s.now args.flags.now loop.c loop.found loop.flags loop.invariant.0 p.0 p.1 _ _ (opened-meets args.a loop.c.pages loop.c.shapes _ _ _ (loop.invariant.1 p.0 p.1) (c.page_hits.ensures p.0 p.1)) _ c.in_err-found.was)
+    meeting-refused args.a args.s.now args.flags.now loop.c loop.found loop.flags loop.invariant.0 p.0 p.1 _ _ (opened-meets args.a loop.c.pages loop.c.shapes _ _ _ (loop.invariant.1 p.0 p.1) (c.page_hits.ensures p.0 p.1)) c.in-Err.w c.in-Err.is
 
 pub shape_of-flags : goal.shape_of-flags
 shape_of-flags c = c.loop-a.invariant.0.long
